@@ -20,12 +20,13 @@ trials: # tries the program that ./icserve runs
 install: # puts the program into PREFIX/bin (if not said ~/.local/bin), the proved one where it is there, its scripts, their manual pages and completions, and the Python package
 	to="$(DESTDIR)$(patsubst ~/%,$(HOME)/%,$(PREFIX))"
 	install -vD "$$(ICSERVE_BUILD=found ./icserve)" "$$to/bin/icserve"
-	for it in film listen send; do install -vD $$it "$$to/bin/icserve-$$it"; done
+	for it in film listen send page; do install -vD $$it "$$to/bin/icserve-$$it"; done
 	python3 share/pages.py "$$to/bin/icserve" "$$to"
 	install -vDm 644 -t "$$to/$(PACKAGES)/icserve" python/icserve/*.py python/icserve/py.typed
+	install -vDm 644 -t "$$to/$(PACKAGES)/icserve/page" python/icserve/page/*.*
 uninstall: # removes from PREFIX what install puts there
 	from="$(DESTDIR)$(patsubst ~/%,$(HOME)/%,$(PREFIX))"
-	for it in icserve icserve-film icserve-listen icserve-send; do
+	for it in icserve icserve-film icserve-listen icserve-send icserve-page; do
 	    rm -fv "$$from/bin/$$it" "$$from/share/man/man1/$$it.1" "$$from/share/bash-completion/completions/$$it" \
 	        "$$from/share/zsh/site-functions/_$$it" "$$from/share/fish/vendor_completions.d/$$it.fish"
 	done
@@ -40,8 +41,10 @@ dist: # makes a release in out/dist, an archive and a package of Debian: of the 
 	    case $$at in */crates/icserve/out/icserve) ;; *) echo "make dist: the proved program isn't there: make prove proves it, and UNPROVED=1 takes another" >&2; exit 1 ;; esac
 	    python3 share/dist.py "$$at" icserve out/dist
 	fi
-bench: # times the program on the systems of docs/speed.md; WITH=.. hands on words, of which WITH=--help tells
-	python3 bench "$$(ICSERVE_BUILD=found ./icserve)" $(WITH)
+bench: # times the program on the systems of docs/speed.md, beside a plain one where there is a C compiler; WITH=.. hands on words, of which WITH=--help tells
+	mkdir -p out
+	! command -v cc >/dev/null || cc -O2 -o out/plain bench/plain.c
+	python3 bench "$$(ICSERVE_BUILD=found ./icserve)" $$([ ! -x out/plain ] || echo --plain out/plain) $(WITH)
 clean: # removes what was built, and what is kept of proofs
 	rm -rf out crates/*/out
 

@@ -2,6 +2,7 @@
 
 import argparse
 import os
+import platform
 import re
 import shutil
 import statistics
@@ -63,20 +64,32 @@ class Bench:
 
 def figures(bench, row, options):
     """What a line of the table says of each program: a median of seconds, millions of instructions, and a rate."""
-    first = [bench.tried(it, row) for it in options.program]
-    took = [[bench.tried(it, row)[0] for it in options.program] for _ in range(options.times)]
+    programs = [*options.program, *[options.plain] * bool(options.plain and row.is_in_place())]
+    first = [bench.tried(it, row) for it in programs]
+    took = [[bench.tried(it, row)[0] for it in programs] for _ in range(options.times)]
     is_told = row.pairs or row.is_in_place()
     count = bench.interactions(options.program[0], row, first[0][2]) if is_told else 0
-    for program, seconds, tried in zip(options.program, map(statistics.median, zip(*took)), first):
+    for program, seconds, tried in zip(programs, map(statistics.median, zip(*took)), first):
         yield f"{seconds:.4f}"
         if options.instructions:
             yield f"{bench.instructions(program, row) / 1e6:.1f}"
         yield f"{count / seconds:,.0f}" if count else "-"
         if tried[1:] != first[0][1:]:
             yield "answers otherwise"
+    if len(programs) > len(options.program):
+        yield f"{statistics.median(it[0] / it[-1] for it in took):.2f}"
+    elif options.plain:
+        yield from ["-"] * (3 + options.instructions)
     if options.guard:
         # Of each turn, since a machine that is busy slows all programs of a turn.
-        yield f"{statistics.median(it[0] / it[-1] for it in took):.2f}"
+        yield f"{statistics.median(it[0] / it[len(options.program) - 1] for it in took):.2f}"
+
+
+def processor():
+    """What the system calls a processor."""
+    about = Path("/proc/cpuinfo")
+    found = re.search(r"(?m)^model name\s*: (.*)$", about.read_text()) if about.exists() else None
+    return found[1] if found else platform.machine()
 
 
 def as_line(what, cells):
@@ -86,6 +99,7 @@ def as_line(what, cells):
 def main():
     parser = argparse.ArgumentParser(prog="bench", description=__doc__)
     parser.add_argument("program", nargs="+", help="the paths of programs: the first tells how many interactions there are")
+    parser.add_argument("--plain", metavar="P", help="takes bench/plain.c, compiled into P, beside them where nets are reduced in place, and tells the first one's time by its")
     parser.add_argument("--times", type=int, default=7, help="runs of each program (7 if not said), after one that isn't counted")
     parser.add_argument("--size", type=float, default=1, help="takes each number of a system times this (1 if not said)")
     parser.add_argument("--only", default="", metavar="WORD", help="takes only rows that have this word")
@@ -97,9 +111,11 @@ def main():
     if options.instructions and not shutil.which("valgrind"):
         parser.error("valgrind isn't installed: apt install valgrind")
     heads = ["seconds", *["M instructions"] * options.instructions, "interactions/s"]
+    print(f"{os.cpu_count()} processors, {processor()}")
     for at, program in enumerate(options.program, 1):
         print(f"{at}: {program}")
-    print(as_line("", [f"{at}: {it}" for at in range(1, len(options.program) + 1) for it in heads]))
+    columns = [f"{at}: {it}" for at in range(1, len(options.program) + 1) for it in heads]
+    print(as_line("", [*columns, *(f"plain: {it}" for it in [*heads, "ratio"] if options.plain)]))
     slower = []
     with tempfile.TemporaryDirectory(dir=IN_MEMORY) as memory, tempfile.TemporaryDirectory() as disk:
         for row in rows(options.size):

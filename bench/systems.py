@@ -6,6 +6,7 @@ ADD = "{Add(x,x)><Z;Add(S(x),y)><S(Add(x,y))}"
 LOOP = "{A(B(x))><B(A(x))}"
 GROW = "{A(B(x),S(y))><B(A(x,y))} <r|A(x,r)=B(x)>"
 DUP = "Dup(Z,Z)><Z;Dup(S(x),S(y))><S(Dup(x,y))"
+MULTIPLY = f"{{Add(x,x)><Z;Add(S(x),y)><S(Add(x,y));Mul(Z,Eps)><Z;Mul(r,Dup(y,z))><S(Mul(Add(r,z),y));{DUP};Eps><Z;Eps><S(Eps)}}"
 ACKERMANN = f"{{Ack(S(x),x)><Z;Ack(r,Again(r,m))><S(m);Again(r,Ack(r,S(Z)))><Z;Again(r,Dup(Ack(r,k),m))><S(Again(k,m));{DUP}}}"
 FIBONACCI = f"{{Add(x,x)><Z;Add(S(x),y)><S(Add(x,y));{DUP};F(Z)><Z;F(r)><S(G(r));G(S(Z))><Z;G(r)><S(Dup(G(Add(r,u)),F(u)))}}"
 SORT = "{Sort(Nil)><Nil;Sort(r)><Cons(h,Sort(Insert(r,h)));Insert(Cons(x,Nil),x)><Nil;Insert(Cons(l,r),Min(l,k,h))><Cons(h,Insert(r,k));"
@@ -72,14 +73,18 @@ def of_nets(size):
     def less(whole, least):
         return least + (whole - least) * size(1_000) // 1_000
 
-    turned = list(range(size(110)))
-    turned = turned[1::2] + turned[::-2]
-    listed = "".join(f"Cons({numeral(it)}," for it in turned) + "Nil" + ")" * len(turned)
+    def sort(count):
+        turned = list(range(count))
+        turned = turned[1::2] + turned[::-2]
+        return f"{SORT} <r|Sort(r)={''.join(f'Cons({numeral(it)},' for it in turned)}Nil{')' * count}>"
+
     chain = numeral(size(8_000))
     for what, given in (
+        (f"{less(300, 3)} times {less(300, 3)}", f"{MULTIPLY} <r|Mul(r,{numeral(less(300, 3))})={numeral(less(300, 3))}>"),
+        (f"Ackermann's function of 2 and {size(1_000):,}", f"{ACKERMANN} <r|Ack(r,{numeral(size(1_000))})={numeral(2)}>"),
         (f"Ackermann's function of 3 and {less(9, 3)}", f"{ACKERMANN} <r|Ack(r,{numeral(less(9, 3))})={numeral(3)}>"),
         (f"Fibonacci's number {less(27, 9)}", f"{FIBONACCI} <r|F(r)={numeral(less(27, 9))}>"),
-        (f"an insertion sort of {len(turned)} numbers", f"{SORT} <r|Sort(r)={listed}>"),
+        *((f"an insertion sort of {it} numbers", sort(it)) for it in (size(110), size(500))),
         (f"Church's 2 to the power of {less(20, 5)}", church(less(20, 5))),
         (f"a chain of {size(8_000):,} agents is eaten", f"{EATS} <r|Eat(r)={chain}>"),
         (f"an agent walks along a chain of {size(8_000):,}", f"{WALKS} <r|Walk(r)={chain}>"),

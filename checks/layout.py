@@ -2,6 +2,7 @@
 """Checks what no prover sees: where that stands which a reader has to believe, and how the docs read. Runs at the top of
 the repository. Prints the file and line of each fault, and last how many checks passed."""
 
+import fnmatch
 import re
 import sys
 from pathlib import Path
@@ -135,15 +136,15 @@ def what_is_believed_is_counted():
 
 
 def calls_that_may_wait_are_told():
-    """The row of docs/promises.md on calls that return names just the public calls that wait, by their bound `Wait`, by the
-    `Maker` that they are given, or for the threads that they say they join."""
-    waits, told = {"Workers", "Maker", "Wait"}, set()
+    """The row of docs/promises.md on calls that return names just the public calls that wait, by their bound `Wait`, or for the
+    threads that they say they join."""
+    waits, told = {"Wait"}, set()
     for path in Path("crates").glob("*/src/**/*.rt"):
         text = path.read_text()
         for call in re.finditer(r"(?m)^( *)pub fn (\w+)<([^(]*)\(", text):
             owner = re.findall(r"(?m)^impl(?:<.*?>)? (\w+)", text[: call.start()])[-1] if call[1] else ""
             is_shown = f"pub struct {owner}" in text if owner else True
-            may_wait = re.search(r"\b(?:Wait|Maker)\b", call[3]) or text[: call.start()].endswith("joins their threads.\n")
+            may_wait = re.search(r"\bWait\b", call[3]) or text[: call.start()].endswith("joins their threads.\n")
             if may_wait and is_shown and not path.parts[1].endswith("_rows"):
                 waits.add(f"{owner}::{call[2]}".removeprefix("::"))
     for path, number, line in lines_of("docs/promises.md"):
@@ -156,8 +157,12 @@ def calls_that_may_wait_are_told():
 
 
 def further_edits_apply():
-    """Each text that an edit of checks/edits/ puts another in the place of stands once in its file."""
+    """Each text that an edit of checks/edits/ puts another in the place of stands once in its file, and docs/wrong-bodies.md
+    names each edit."""
+    named = re.findall(r"`(\w+_[\w*]*)`", Path("docs/wrong-bodies.md").read_text())
     for edit in sorted(Path("checks/edits").glob("*/*.edit")):
+        if not any(fnmatch.fnmatch(edit.stem, it) for it in named):
+            yield edit, 1, "isn't named in docs/wrong-bodies.md"
         place, lines = Path("crates") / edit.parent.name, edit.read_text().split("\n")
         path = None
         for number, line in enumerate(lines, 1):
@@ -185,7 +190,7 @@ def texts(path):
 
 def sentences_are_short():
     """A sentence of the docs has at most 40 words; what stands between backquotes is one word."""
-    for path in [*sorted(Path(".").glob("*.md")), *sorted(Path("docs").glob("*.md"))]:
+    for path in [*sorted(Path(".").glob("*.md")), *sorted(Path("docs").rglob("*.md"))]:
         for words in texts(path):
             first, count = 0, 0
             for place, (number, word) in enumerate(words, 1):
@@ -198,7 +203,7 @@ def sentences_are_short():
 
 def paragraphs_are_short():
     """A paragraph of the docs, an item of a list and a cell of a table have at most 80 words."""
-    for path in [*sorted(Path(".").glob("*.md")), *sorted(Path("docs").glob("*.md"))]:
+    for path in [*sorted(Path(".").glob("*.md")), *sorted(Path("docs").rglob("*.md"))]:
         for words in texts(path):
             count = sum(bool(re.search(r"\w", word)) for _, word in words)
             if count > 80:

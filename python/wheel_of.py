@@ -7,6 +7,7 @@ import zipfile
 from pathlib import Path
 
 HERE = Path(__file__).resolve().parent
+KINDS = (".py", ".typed", ".html", ".css", ".js")
 WHEEL = "Wheel-Version: 1.0\nGenerator: icserve\nRoot-Is-Purelib: true\nTag: py3-none-any\n"
 
 
@@ -24,7 +25,7 @@ def build_wheel(wheel_directory, config_settings=None, metadata_directory=None):
     name, version = field("name"), field("version")
     about = f"{name}-{version}.dist-info"
     told = f"Metadata-Version: 2.1\nName: {name}\nVersion: {version}\nSummary: {field('description')}\nRequires-Python: {field('requires-python')}\n"
-    files = {str(it.relative_to(HERE)): it.read_bytes() for it in sorted(HERE.glob("icserve/*")) if it.suffix in (".py", ".typed")}
+    files = {str(it.relative_to(HERE)): it.read_bytes() for it in sorted(HERE.glob("icserve/**/*.*")) if it.suffix in KINDS}
     files.update({f"{about}/METADATA": told.encode(), f"{about}/WHEEL": WHEEL.encode()})
     records = "".join(record(*it) for it in files.items()) + f"{about}/RECORD,,\n"
     wheel = f"{name}-{version}-py3-none-any.whl"

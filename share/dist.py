@@ -28,7 +28,7 @@ START = """icserve reduces interaction nets. Begin with
     bin/icserve help                            which tells the other commands
     bin/icserve help language                   which tells how nets are written
 
-It needs Linux on x86-64 with glibc {glibc} or later. The scripts bin/icserve-film, -listen and -send need Python 3.8 or later, and
+It needs Linux on x86-64 with glibc {glibc} or later. The scripts bin/icserve-film, -listen, -send and -page need Python 3.8 or later, and
 film and pictures Graphviz. Put bin/ on the path, or copy bin/, share/ and lib/ below /usr/local. The Python package is in
 lib/python3/dist-packages. README.md and docs/ are the pages of the sources, {commit}.
 
@@ -76,10 +76,7 @@ def lay(program, root):
     with contextlib.redirect_stdout(io.StringIO()):
         pages.main(str(root / "bin/icserve"), str(root))
     package = root / "lib/python3/dist-packages/icserve"
-    package.mkdir(parents=True)
-    for it in sorted((TOP / "python/icserve").glob("*.py*")) + [TOP / "python/icserve/py.typed"]:
-        if it.is_file():
-            shutil.copy(it, package)
+    shutil.copytree(TOP / "python/icserve", package, ignore=shutil.ignore_patterns("__pycache__"))
 
 
 def archive(folder, path):
@@ -116,7 +113,7 @@ def package(name, version, folder, path):
 def main(program, name, folder):
     folder = Path(folder)
     folder.mkdir(parents=True, exist_ok=True)
-    version = subprocess.run([program, "--version"], stdout=subprocess.PIPE, check=True, universal_newlines=True).stdout.split()[-1]
+    version = subprocess.run([program, "--version"], stdout=subprocess.PIPE, check=True, universal_newlines=True).stdout.split()[1]
     proved = UNPROVED if name.endswith("unproved") else PROVED
     made = []
     with tempfile.TemporaryDirectory() as room:

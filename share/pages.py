@@ -11,7 +11,7 @@ from pathlib import Path
 TOP = Path(__file__).resolve().parent.parent
 
 # The scripts beside the program, and as what each is installed.
-SCRIPTS = {"icserve-film": "film", "icserve-listen": "listen", "icserve-send": "send"}
+SCRIPTS = {"icserve-film": "film", "icserve-listen": "listen", "icserve-send": "send", "icserve-page": "page"}
 
 # Where a value or an argument is a file.
 FILES = ("F", "FILE", "SCRIPT", "LINES", "PATH")
@@ -58,7 +58,7 @@ class Help:
 
 
 # What else `help` tells of, beside the words.
-TOLD_OF = ("language", "keep")
+TOLD_OF = ("language", "limits", "keep")
 
 
 def said(program, *words):

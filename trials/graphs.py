@@ -9,7 +9,7 @@ from known import name_text
 HEAD = ["graph net {", "node [shape=plaintext, width=0, height=0]", "edge [arrowsize=0.7]"]
 AGENT = re.compile(r'A(\d+) \[shape=record, label="\{<0>([A-Z0-9]\w*)((?:\|\{<1>1?(?:\|<\d+>\d*)*\})?)\}"\]')
 JOINT = re.compile(r"J(\d+) \[shape=point, width=0.05, height=0.05\]")
-EDGE = re.compile(r"(\S+) -- (\S+?)(?: \[dir=(\w+)(, penwidth=3)?\])?")
+EDGE = re.compile(r"(\S+?)(:[ns])? -- (\S+?)(:[ns])?(?: \[dir=(\w+)(, penwidth=3|, style=dashed)?\])?")
 HEADS = {None: (False, False), "forward": (False, True), "back": (True, False), "both": (True, True)}
 
 
@@ -17,6 +17,7 @@ class Edge(NamedTuple):
     ends: tuple
     heads: tuple
     is_thick: bool
+    is_dashed: bool = False
 
 
 class Graph(NamedTuple):
@@ -51,7 +52,12 @@ def graph_of(text):
                 raise ValueError(f"no point: {line}")
             graph = graph._replace(joints=graph.joints + 1)
         elif found := EDGE.fullmatch(line):
-            graph.edges.append(Edge((found[1], found[2]), HEADS[found[3]], bool(found[4])))
+            ends, style = (found[1], found[3]), found[6] or ""
+            sides = (":n", ":s") if ends[0].endswith(":0") else (":s", ":n") if ends[1].endswith(":0") else (":s", ":s")
+            is_loop = len({it.partition(":")[0] for it in ends}) == 1 and ends[0][0] == "A"
+            if (found[2], found[4]) != (sides if is_loop else (None, None)):
+                raise ValueError(f"sides of a wire: {line}")
+            graph.edges.append(Edge(ends, HEADS[found[5]], "penwidth" in style, "dashed" in style))
         else:
             raise ValueError(f"no line of a graph: {line}")
     return graph

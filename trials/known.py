@@ -42,7 +42,7 @@ LOOP = Loops()
 TWO = Ends(f"{ADD} <r|Add(r,S(Z))=S(Z)>", ("<r|Add(r,S(Z))=S(Z)>", "<S(s)|Z=Add(s,S(Z))>", "<S(S(Z))|>"))
 STILL = Ends("{} <|x=x>", ("<|x=x>",))
 
-# As many equations as the smallest round has that is made by threads.
+# Enough equations for a lap by threads.
 WIDE_ROUNDS = tuple("<|" + ",".join([it] * 1000) + ">" for it in ("A=B,A=B,A=B,Q=R", "Q=R"))
 WIDE = Ends("{A><B} " + WIDE_ROUNDS[0], WIDE_ROUNDS)
 

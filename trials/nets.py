@@ -112,15 +112,36 @@ def puttable(line):
     return found
 
 
-def form_of(rules, line):
-    """The form of the net of a configuration that was printed, over the symbols of these rules."""
+def circle_in(equations):
+    """The symbol at which the first circle of equations is closed, which are of terms that were read: an equation of a name with a term that
+    has this name. Of a name that is joined with itself it is `x=x`."""
+    for sides in equations:
+        for side, other in (sides, sides[::-1]):
+            if isinstance(side[0], int) and side[0] in other:
+                return "x=x" if isinstance(other[0], int) else other[0][0]
+    return None
+
+
+def circle_line(line):
+    """What standard error is told of the first circle of a configuration that was printed."""
+    symbol = circle_in(phrases_of(line)[1])
+    return f"icserve: circle at {symbol}\n".encode() if symbol else b""
+
+
+def terms_of(rules, line):
+    """The interface and the equations of a configuration that was printed, as terms over the symbols of these rules."""
     interface, equations = phrases_of(line)
     places = {text: place for place, (text, _) in enumerate(rules.symbols)}
 
     def term(nodes):
         return [it if isinstance(it, int) else ~places[it[0]] for it in nodes]
 
-    return form_in(rules, [term(it) for it in interface], [(term(left), term(right)) for left, right in equations])
+    return [term(it) for it in interface], [(term(left), term(right)) for left, right in equations]
+
+
+def form_of(rules, line):
+    """The form of the net of a configuration that was printed, over the symbols of these rules."""
+    return form_in(rules, *terms_of(rules, line))
 
 
 def trees(rules, interface, equations):

@@ -20,6 +20,7 @@ NAMES = "a name is a letter a to z, maybe with a number from 1 on, and a symbol 
 SYMBOLS = "a symbol has letters and digits only"
 RULE_SYMBOLS = "both symbols of a rule begin with A to Z or 0 to 9"
 ONCE = "stands once; write it once more, or in its place an eraser, as Era (`icserve expand` writes its rules)"
+EACH = "stand once; write each once more, or an eraser in its place, as Era (`icserve expand` writes its rules)"
 BOTH = "stand once; write one name for both, or an eraser in the place of each, as Era (`icserve expand` writes its rules)"
 MOST_LOOKED = 4_096
 THRICE = "stands here for the third time; `icserve expand` writes rules that copy"
@@ -165,13 +166,13 @@ def miscounted(words):
         before[text] += 1
 
 
-def other_alone(text, at, words):
-    """The first name beside that at a place which stands once among the words of its rule, or None; of a long rule none is told."""
+def others_alone(text, at, words):
+    """The first two names beside that at a place which stand once among the words of its rule; of a long rule none is told."""
     before, after = re.split(rb"[{;]", text[:at])[-1], re.split(rb"[;}]", text[at:])[0]
     if max(len(before), len(after)) > MOST_LOOKED:
-        return None
+        return []
     counts = Counter(it[1] for it in words)
-    return next((it[1] for it in words if it[2] is NAME and counts[it[1]] == 1 and it[0] != at), None)
+    return [it[1].decode() for it in words if it[2] is NAME and counts[it[1]] == 1 and it[0] != at][:2]
 
 
 def renamed(words):
@@ -187,9 +188,11 @@ def fault_of_names_and_rules(reader):
         if at is not None:
             text = next(text for place, text, *_ in left + right if place == at).decode()
             is_once = [it[1].decode() for it in left + right].count(text) == 1
-            other = other_alone(reader.text, at, left + right)
-            told = f"and {other.decode()} {BOTH}" if is_once and other else ONCE if is_once else THRICE
-            return "namecount", at, f"rule {number}: in a rule each name stands exactly twice: {text} {told}"
+            told = f"{text} {THRICE}"
+            if is_once:
+                texts = [text, *others_alone(reader.text, at, left + right)]
+                told = f"{' and '.join([', '.join(texts[:-1]), texts[-1]]).removeprefix(' and ')} {(ONCE, BOTH, EACH)[len(texts) - 1]}"
+            return "namecount", at, f"rule {number}: in a rule each name stands exactly twice: {told}"
     seen = {}
     for at, text, form, _ in reader.words[reader.before :]:
         seen[text] = seen.get(text, 0) + (form is NAME)
@@ -198,10 +201,17 @@ def fault_of_names_and_rules(reader):
     pairs = [{left[0][1], right[0][1]} for left, right in reader.sides]
     for index, pair in enumerate(pairs):
         if pair in pairs[:index]:
-            return "twice", reader.sides[index][0][0][0], f"rule {index + 1}: a rule before this one is of the same two symbols"
+            told = f"rule {index + 1}: rule {pairs.index(pair) + 1} is of the same two symbols"
+            return "twice", reader.sides[index][0][0][0], told
     for number, (left, right) in enumerate(reader.sides, 1):
         if left[0][1] == right[0][1] and renamed(left + right) != renamed(right + left):
             return "lopsided", left[0][0], f"rule {number}: a rule of a symbol with itself reads the same from both sides"
+
+
+def distance(between):
+    """How far it is from one word to another one, by the text between them."""
+    count, word = (between.count(b"\n"), "line") if b"\n" in between else (len(between), "column")
+    return f"{count} {word}{'s' * (count != 1)}"
 
 
 def fault_of_words(reader):
@@ -217,7 +227,9 @@ def fault_of_words(reader):
             return "limit", at, passed
         if form is SYMBOL and symbols.setdefault(text, arguments) != arguments and not clash:
             first = symbols[text]
-            clash = ("arity", at, f"a symbol has one arity: {text.decode()} has {arguments} here and {first} where it stands first")
+            before = distance(reader.text[next(it[0] for it in reader.words if it[1] == text) : at])
+            told = f"{text.decode()} has {arguments} here and {first} where it stands first, {before} before"
+            clash = ("arity", at, f"a symbol has one arity: {told}")
     return clash or fault_of_names_and_rules(reader)
 
 

@@ -48,9 +48,6 @@ OF_DISKS = [f"icserve: {it}\n".encode() for it in ("device", "locked", "broken",
 # The lines after which a line tells how far a net has come that was reduced in place.
 OF_NETS = [b"icserve: overgrown", b"icserve: table full", b"icserve: memory"]
 
-# The lines after which a line tells which round is refused.
-OF_ROUNDS = [b"icserve: overgrown", b"icserve: names out"]
-
 
 # The line of standard error that a serving without `--explain` has at the first line that is answered by `bad`.
 OF_BAD = b"icserve: a line was answered `bad`: serve --explain tells what is wrong in such lines\n"
@@ -58,7 +55,7 @@ OF_BAD = b"icserve: a line was answered `bad`: serve --explain tells what is wro
 
 def ran_with(command, status, out, err):
     """A run, what it wrote on standard error parted: a line that tells of the disk's file, of a standard stream, of a net,
-    of a round, of a script, of a line of a batch, of a history or of a line with a fault stands by itself, and so do the
+    of a script, of a line of a batch, of a history or of a line with a fault stands by itself, and so do the
     four lines of a place in a text."""
     if OF_BAD in err:
         ran = ran_with(command, status, out, err.replace(OF_BAD, b"", 1))
@@ -69,11 +66,10 @@ def ran_with(command, status, out, err):
     of_output = line == b"icserve: write" and after.startswith(b"standard output: ") and after.count(b"\n") == 1
     of_text = line.startswith(b"icserve: bad ") and after.startswith(b"line ") and after.count(b"\n") == 4
     of_net = line in OF_NETS and after.startswith(b"interactions ") and after.count(b"\n") in (1, 2)
-    of_round = line in OF_ROUNDS and after.startswith(b"round ") and after.count(b"\n") == 1
     of_script = line.startswith(b"icserve: script ") and after.count(b"\n") == 1
     of_job = line.startswith(b"icserve: line ") and after.count(b"\n") == 1
     of_history = line == b"icserve: log full" and after.startswith(b"the history holds ") and after.count(b"\n") == 1
-    if of_disk or of_text or of_input or of_output or of_net or of_round or of_script or of_job or of_history:
+    if of_disk or of_text or of_input or of_output or of_net or of_script or of_job or of_history:
         return Ran(command, status, out, line + feed, after)
     return Ran(command, status, out, err)
 

@@ -14,6 +14,18 @@ from program import PATIENCE, PROGRAM, TOP, Trial, heeds_signals, run, said_of, 
 
 SCRIPTS = TOP / "cluster"
 
+# Stands for a program that a script calls: counts the calls of all, and at the one of the variable kills the script's shell,
+# before the program is run or after it.
+TOOL = """#!/bin/sh
+calls=$(($(cat {room}/calls) + 1))
+echo "$calls" >{room}/calls
+[ "$calls" != "$BEFORE" ] || {{ kill -9 "$PPID"; exit 1; }}
+{program} "$@"
+status=$?
+[ "$calls" != "$AFTER" ] || kill -9 "$PPID"
+exit "$status"
+"""
+
 
 def numeral(count):
     return "S(" * count + "Z" + ")" * count
@@ -96,11 +108,11 @@ class Engine:
             time.sleep(0.005)
         self.process.communicate()
 
-    def kill_shells(self):
-        """Kills the engine and the shells that run shards, and leaves the programs below them running."""
+    def kill_shells(self, script="shard"):
+        """Kills the engine and the shells that run a script, and leaves the programs below them running."""
         kill(self.process.pid)
         for it, _, words in list(started_by(self.process.pid)):
-            if str(SCRIPTS / "shard").encode() in b" ".join(words) and PROGRAM.encode() not in words:
+            if str(SCRIPTS / script).encode() in b" ".join(words) and PROGRAM.encode() not in words:
                 kill(it)
         self.process.wait()
 
@@ -145,6 +157,26 @@ class Shards(Trial):
         env = {**os.environ, "ICSERVE": PROGRAM, "TMPDIR": str(self.room), "PARALLEL_HOME": str(self.room / "of-parallel")}
         (self.room / "of-parallel").mkdir(exist_ok=True)
         return Engine([str(it) for it in command], cwd=self.room, env={**env, **how.pop("env", {})}, **how)
+
+    def counts_calls(self, *names):
+        """Puts what counts calls in the place of these programs and of icserve."""
+        for name, program in ({it: shutil.which(it) for it in names} | {"icserve": PROGRAM}).items():
+            self.stands_for(name, TOOL.format(room=self.room, program=program))
+
+    def stands_for(self, name, script):
+        """Writes a script that is called in the place of a program."""
+        (self.room / name).write_text(script)
+        (self.room / name).chmod(0o755)
+
+    def with_stand_ins(self, *command, **how):
+        """A command begun that calls what stands for programs in the trial's folder."""
+        env = {"PATH": f"{self.room}:{os.environ['PATH']}", **how.pop("env", {})}
+        return self.engine(*command, env=env, **how)
+
+    def killed_at(self, moment, call, *command):
+        """A script begun whose shell is killed BEFORE or AFTER its call of this number."""
+        (self.room / "calls").write_text("0")
+        return self.with_stand_ins(*command, env={"ICSERVE": str(self.room / "icserve"), moment: str(call)})
 
     def waits_for(self, holds, seconds=PATIENCE, told=lambda: ""):
         """Waits until this holds, and tells what was there where it doesn't."""

@@ -18,6 +18,8 @@
    SHIM_GATE="FIRST N": each of N threads, from the FIRST one on (from 0), waits at its end until all of them have begun, for ten
    seconds at most. (At its beginning it can't: a thread may begin others.)
 
+   SHIM_SYNC=N: each sync takes N microseconds more.
+
    SHIM_LOG=PATH: a line is appended to this file for each call that changes a file, syncs it, reads it at a place, writes
    answers or goes wrong, as "KIND AT LENGTH\n" and, of a write, its bytes. KIND is W (written), R (read at a place), T (cut
    or made longer), S (synced), O (written to standard output), E (gone wrong, with the call's number in place of AT), C (at the end:
@@ -46,6 +48,7 @@ static char what[16], how[16];
 static long wanted, seen;
 static int log_fd = -1, is_set, is_file[1024], is_device[1024];
 static int gate, first, begun, there;
+static useconds_t slower;
 static struct { void *(*body)(void *); void *argument; } waiting[64];
 static char device_when[16], device[4096];
 
@@ -53,7 +56,8 @@ static char device_when[16], device[4096];
 
 __attribute__((constructor)) static void begin(void) {
     const char *shim = getenv("SHIM"), *path = getenv("SHIM_LOG"), *special = getenv("SHIM_DEVICE");
-    const char *threads = getenv("SHIM_GATE");
+    const char *threads = getenv("SHIM_GATE"), *sync = getenv("SHIM_SYNC");
+    if (sync) slower = atol(sync);
     if (threads && sscanf(threads, "%d %d", &first, &gate) == 2 && gate > 64) gate = 64;
     if (special) sscanf(special, "%15s %4095[^\n]", device_when, device);
     if (path) {
@@ -160,9 +164,15 @@ int close(int fd) {
     if (answer >= 0 && is_open_file(fd) && kind) note(kind, at, 0, NULL);                         \
     return outcome == DONE ? (errno = error, -1) : answer
 
-int fsync(int fd) { ON_FILE(NEXT(fsync)(fd), 'S', 0); }
+/* A sync that takes longer. */
+static int synced(int answer) {
+    if (slower) usleep(slower);
+    return answer;
+}
 
-int fdatasync(int fd) { ON_FILE(NEXT(fdatasync)(fd), 'S', 0); }
+int fsync(int fd) { ON_FILE(synced(NEXT(fsync)(fd)), 'S', 0); }
+
+int fdatasync(int fd) { ON_FILE(synced(NEXT(fdatasync)(fd)), 'S', 0); }
 
 int ftruncate(int fd, off_t length) { ON_FILE(NEXT(ftruncate)(fd, length), 'T', length); }
 

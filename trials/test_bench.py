@@ -6,11 +6,13 @@ import shutil
 import subprocess
 import sys
 
-from program import PROGRAM, TOP, Trial
+from program import PROGRAM, TOP, Trial, run
 
 sys.path.insert(0, str(TOP / "bench"))
 
 from systems import rows  # noqa: E402
+
+HAS_COMPILER = bool(shutil.which("cc"))
 
 
 class Bench(Trial):
@@ -36,16 +38,30 @@ class Bench(Trial):
     def test_each_row_is_printed_with_its_seconds_and_the_interactions_that_are_told(self):
         found = self.figures("--size 0.01 --times 1")
         self.equals("make bench", "the rows", [it.what for it in rows(0.01)], [it[0] for it in found])
-        for row, (what, seconds, rate) in zip(rows(0.01), found):
+        for row, (what, seconds, rate, *plain) in zip(rows(0.01), found):
             self.equals(what, "whether it tells seconds", True, float(seconds) > 0)
             self.equals(what, "whether it tells interactions", row.pairs > 0 or row.is_in_place(), rate != "-")
+            self.equals(what, "how many figures of the plain program there are", 3 * HAS_COMPILER, len(plain))
+            self.equals(what, "whether they are told", HAS_COMPILER and row.is_in_place(), "-" not in (plain or ["-"]))
 
     def test_another_program_stands_beside_and_one_that_answers_otherwise_is_told(self):
         for other, more in ((PROGRAM, []), (shutil.which("true"), ["answers otherwise"])):
             (found,) = self.figures(f"--size 0.01 --times 1 --only once {other}")
-            self.equals(other, "how many figures there are", 5 + len(more), len(found))
-            self.equals(other, "what stands after them", more, found[5:])
+            self.equals(other, "how many figures there are", 5 + len(more) + 3 * HAS_COMPILER, len(found))
+            self.equals(other, "what stands after them", more, found[5 : 5 + len(more)])
             self.equals(other, "whether the program tells interactions", False, found[2] == "-")
+
+    def test_the_plain_program_prints_what_reduce_prints(self):
+        if not HAS_COMPILER:
+            self.skipTest("no C compiler is there")
+        plain = self.room / "plain"
+        subprocess.run(["cc", "-O2", "-Wall", "-Wextra", "-Werror", "-o", plain, TOP / "bench/plain.c"], check=True)
+        for path in sorted((TOP / "examples").glob("*.ic")):
+            text = path.read_bytes()
+            wanted = run("reduce", "--steps", "100000", given=text)
+            if wanted.out.endswith(b"|>\n") and not wanted.status and not re.search(rb"[<(,][a-z]", wanted.out):
+                came = run(given=text, program=plain)
+                self.equals(came.command, "what it prints", (0, wanted.out), (came.status, came.out))
 
     def test_a_program_that_is_slower_than_another_fails_the_guard(self):
         slow = self.room / "slow"

@@ -8,9 +8,13 @@ import time
 from pathlib import Path
 
 from known import ADD, LOOP
-from program import IN_MEMORY, PROGRAM, Trial
+from program import IN_MEMORY, PROGRAM, Trial, run
+from test_in_place import DOUBLES, PILES
 
 MEGABYTE = 1_000_000
+
+# The names and agents that are told of a net.
+NODES = re.compile(rb"interactions \d+, nodes (\d+), ")
 
 
 def fixed_work(count=3_000_000):
@@ -60,6 +64,21 @@ class Bounds(Trial):
             self.below(f"bytes of a million nodes: {what}", 100 * MEGABYTE, memory)
             self.below(f"seconds of a million nodes, in those of a loop: {what}", 20, seconds / fixed_work())
 
+    def test_as_many_symbols_as_there_may_be_and_many_rules_take_little_memory(self):
+        """A table of all pairs of symbols would take 34 GB."""
+        symbols = "{} <|" + ",".join(f"A{it}=B{it}" for it in range(2**15)) + ">"
+        rules = ";".join(f"A{it}><A{it + 1}" for it in range(2**15))
+        pairs = ",".join(f"A{it}=A{it + 1}" for it in range(2**15))
+        for what, text in (("symbols", symbols), ("rules", f"{{{rules}}} <|{pairs}>")):
+            memory, seconds = self.taken("reduce", "--workers", 1, "--quiet-answer", given=text)
+            self.below(f"bytes of many {what}", 100 * MEGABYTE, memory)
+            self.below(f"seconds of many {what}, in those of a loop", 20, seconds / fixed_work())
+
+    def test_a_server_of_many_submits_and_cancels_takes_little_memory(self):
+        lines = f"submit a {LOOP.text}\nrun 1\ncancel a\n" * 20_000
+        memory, _ = self.taken("serve", "--disk", self.disk(), given=lines)
+        self.below("bytes of 20,000 jobs that come and go", 200 * MEGABYTE, memory)
+
     def test_twice_the_text_takes_twice_the_time(self):
         def numeral(count):
             return "S(" * count + "Z" + ")" * count
@@ -69,3 +88,26 @@ class Bounds(Trial):
             (little, few), (much, many) = (self.taken("reduce", "--workers", 1, given=text(n)) for n in (100_000, 400_000))
             self.below(f"four times {what}: seconds by seconds", 8, many / (few + 0.02))
             self.below(f"four times {what}: bytes by bytes", 5, much / little)
+
+    def test_what_bounds_a_net_are_its_names_and_agents_at_a_time(self):
+        """Agents of one kind become those of another three times. All kinds at their peaks are four times as many."""
+        count, turns = 20_000, ("ST", "TU", "UV")
+        rules = ";".join(f"{at}(a,r)><{old}({at}({new}(a),r));{at}(a,a)><Z" for at, (old, new) in zip("PQR", turns))
+        text = f"{{{rules}}} <w|P(Z,x)={'S(' * count}Z{')' * count},Q(Z,y)=x,R(Z,w)=y>"
+        for workers in (1, 4):
+            ran = run("reduce", "--workers", workers, "--nodes", count + 2_000, "--stats", given=text)
+            wanted = (0, f"<{'V(' * count}Z{')' * count}|>\n".encode())
+            self.equals(ran.command, "status and answer", wanted, (ran.status, ran.out))
+
+    def test_a_net_that_grows_is_ended_within_a_tenth_of_its_bound(self):
+        """However many threads reduce it. What the process takes follows the bound."""
+        for what, text, room in (("pairs that become two", DOUBLES, 25), ("pairs that pile up", PILES, 12)):
+            for workers in (1, 2, 4):
+                for most in (20_000, 200_000, 2_000_000):
+                    words = ["reduce", "--workers", workers, "--nodes", most]
+                    ran = run(*words, given=text, seconds=30)
+                    told = NODES.match(ran.after)
+                    self.equals(ran.command, "how it ends", (1, b"icserve: overgrown\n", True), (ran.status, ran.err, bool(told)))
+                    self.equals(ran.command, f"whether {told[1]} is more, by a tenth at most", True, most < int(told[1]) <= 1.1 * most)
+                memory, _ = self.taken(*words, given=text, status=1)
+                self.below(f"bytes of {most} names and agents: {what}, {workers} threads", (20 + room * most / MEGABYTE) * MEGABYTE, memory)

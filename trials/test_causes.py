@@ -223,7 +223,7 @@ class Causes(Trial):
         for name in (path, second):
             Path(name).write_bytes(bytes(17))
         none = f"{path}: no reduction is kept in it and in its second file, {second}: bring back a copy of both; "
-        none += "after a stop in the first keep, remove both, and begin again"
+        none += "after a stop in the first keep, give the same `--keep` again"
         self.tells(run("reduce", "--resume", path), "no slot", none)
         Path(path).unlink()
         Path(second).unlink()
@@ -232,8 +232,8 @@ class Causes(Trial):
             held = Path(name).read_bytes()
             Path(name).write_bytes(held[:-1])
         changed = f"{path}: something else has changed it or its second file, {second}, or they were copied in part; "
-        changed += "copy both, then write `head -c 17 /dev/zero` over the one that `inspect` doesn't show whole, else over the one that it "
-        changed += "shows as held, and resume again; after a stop in the first keep, remove both, and begin again"
+        changed += f"copy both, then `--resume {path} --from-one-file` goes on with the one that is whole; "
+        changed += "after a stop in the first keep, give the same `--keep` again"
         self.tells(run("reduce", "--resume", path), "damaged", changed)
 
     def test_nothing_is_told_after_other_lines(self):

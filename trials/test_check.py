@@ -99,6 +99,23 @@ class Check(Trial):
         self.tells(files)
         self.tells(self.put("{} <|>", "run " + "0" * 262_140, "run " + "0" * 262_141, "", "submit a {} <|>\nlist"), "--script")
 
+    def test_a_strict_check_counts_warnings_as_faults(self):
+        fine, warned, line, bad = (path for path, _ in self.put("<|>", "{A><B} <x|A=C>", "submit two {} <r|r=Done>", "<"))
+        faults = (1, b"icserve: faults")
+        for paths, plain, strict in (
+            ([fine], (0, b""), (0, b"")),
+            ([warned], (0, b""), faults),
+            ([line], (0, b""), faults),
+            ([warned, fine], (0, b""), faults),
+            ([fine, bad], faults, faults),
+            ([self.room / "none", warned], (4, b"icserve: read"), (4, b"icserve: read")),
+        ):
+            for flags in ([], ["--format", "json"]):
+                ran, told = run("check", "--strict", *flags, *paths), run("check", *flags, *paths)
+                self.equals(ran.command, "what is told", (told.out, told.after), (ran.out, ran.after))
+                self.equals(told.command, "how it ends", plain, (told.status, told.err.partition(b"\n")[0]))
+                self.equals(ran.command, "how it ends", strict, (ran.status, ran.err.partition(b"\n")[0]))
+
     def test_drawn_lines_of_scripts(self):
         draw = self.draws()
         for _ in range(10):

@@ -146,6 +146,35 @@ class Scripts(Shards):
             path.write_bytes(whole)
         files[1].unlink()
         self.ended(self.script("gather", "jobs"), err=none[1:2], status=1)
+        self.ended(self.script("gather", "--there", "jobs"), out=answers[0] + answers[2], err=none[1:2], status=1)
+        files[1].write_text("a2 done 0 <|>\n")
+        line = "gather: jobs/00002/answers isn't whole: delete it, and run the shard again"
+        self.ended(self.script("gather", "--there", "jobs"), out=answers[0] + answers[2], err=[line], status=1)
+        files[1].write_text("".join(f"{it}\n" for it in answers[1]))
+        self.ended(self.script("gather", "--there", "jobs"), out=sum(answers, []))
+
+    def test_what_is_there_of_large_texts_is_gathered(self):
+        folder = self.room / "texts"
+        folder.mkdir()
+        for name in ("a", "b", "c"):
+            (folder / f"{name}.ic").write_text("{} <|>\n")
+        (folder / "c.ic.answer").write_text("<|>\n")
+        figures = '{"end":"quiet","stuck":null,"circle":null,"interactions":7,"by_rule":[]}'
+        (folder / "c.ic.figures").write_text(figures + "\n")
+        (folder / "b.ic.refused").write_text("icserve: overgrown\n")
+        told = ["gather: texts/a.ic has no answer yet", "gather: texts/b.ic is refused, overgrown: mend it, or move it away"]
+        self.ended(self.script("gather", "texts"), err=told, status=1)
+        self.ended(self.script("gather", "--there", "texts"), out=["c done 7 <|>"], err=told, status=1)
+
+    def test_the_figures_of_the_pages_are_measured(self):
+        """Each way of running jobs is timed, of few jobs here, where GNU parallel is there."""
+        if not shutil.which("parallel"):
+            self.skipTest("GNU parallel isn't installed: cluster/figures isn't tried")
+        ran = self.script("figures", "--turns", 1, "--jobs", 2, self.room)
+        self.equals(ran.command, f"status; it said {ran.err}", 0, ran.status)
+        rows = [it.split("|")[1].strip() for it in ran.out.decode().splitlines() if it.startswith("| ")]
+        ways = [f"`icserve reduce {words}` without disks, {it} at a time" for words in ("--workers 1", "--rounds 1000000") for it in (1, 2, 4)]
+        self.equals(ran.command, "the rows without disks", ways, [it for it in rows if "without disks" in it])
 
     def test_progress_tells_stuck_jobs_of_answers_and_disks(self):
         """Of answers and of disks alike, those jobs are stuck that are done with an equation of two agents."""

@@ -2,57 +2,25 @@
 take many minutes, and are run by name: python3 trials cluster_long."""
 
 import os
-import shutil
-import signal
 import socket
 import subprocess
 import time
 
+from hosts import Hosts, free_port
+from known import ADD, LOOP
 from program import PATIENCE, PROGRAM
-from shards import SCRIPTS, Shards, drawn_jobs
+from shards import SCRIPTS, Shards, drawn_jobs, numeral
 
 SHARDS = 40
 MOST_ROUNDS = 2000
 
 
-def free_port():
-    with socket.socket() as it:
-        it.bind(("127.0.0.1", 0))
-        return it.getsockname()[1]
-
-
-class Thousand(Shards):
+class Thousand(Hosts, Shards):
     """The jobs, cut into their shards."""
 
     def cut_thousand(self):
         self.lines = drawn_jobs(self.draws(), 1000, MOST_ROUNDS)
         return self.cut(self.lines, 1000 // SHARDS)
-
-    def wants(self, *programs):
-        """Skips the trial where a program isn't installed."""
-        path = f"{os.environ['PATH']}:/usr/sbin:/sbin"
-        found = {it: shutil.which(it, path=path) for it in programs}
-        missing = [it for it, place in found.items() if not place]
-        if missing:
-            self.skipTest(f"not installed: {' '.join(missing)}")
-        return found
-
-    def daemon(self, *command, **how):
-        """Starts a server of the trial's own in the foreground, which is ended by its own process id."""
-        with open(self.room / f"{os.path.basename(str(command[0]))}.out", "ab") as out:
-            command = [str(it) for it in command]
-            started = subprocess.Popen(command, stdin=subprocess.DEVNULL, stdout=out, stderr=out, **how)
-        self.addCleanup(self.end_daemon, started)
-        return started
-
-    @staticmethod
-    def end_daemon(started):
-        started.send_signal(signal.SIGTERM)
-        try:
-            started.wait(20)
-        except subprocess.TimeoutExpired:
-            started.kill()
-            started.wait()
 
 
 class Parallel(Thousand):
@@ -111,30 +79,6 @@ class Parallel(Thousand):
         self.gathers(self.lines, MOST_ROUNDS)
         self.equals("the servers of ssh", "whether they still run", [None, None], [it.poll() for it in hosts])
 
-    def ssh_host(self, found, name):
-        """Starts a server of ssh on 127.0.0.1 with a port and a key of its own."""
-        keys = {"host": self.room / f"{name}.key", "user": self.room / "user.key"}
-        for key in keys.values():
-            if not key.exists():
-                subprocess.run([found["ssh-keygen"], "-q", "-t", "ed25519", "-N", "", "-f", key], check=True)
-        port, user = free_port(), os.environ.get("USER") or "root"
-        (self.room / f"{name}.sshd").write_text(
-            f"ListenAddress 127.0.0.1\nPort {port}\nHostKey {keys['host']}\nPidFile {self.room}/{name}.pid\n"
-            f"AuthorizedKeysFile {keys['user']}.pub\nStrictModes no\nUsePAM no\nPasswordAuthentication no\nMaxStartups 100\n"
-        )
-        with open(self.room / "ssh_config", "a") as config:
-            config.write(
-                f"Host {name}\n HostName 127.0.0.1\n Port {port}\n User {user}\n IdentityFile {keys['user']}\n"
-                " IdentitiesOnly yes\n StrictHostKeyChecking no\n UserKnownHostsFile /dev/null\n LogLevel ERROR\n BatchMode yes\n"
-            )
-        if os.geteuid() == 0:
-            os.makedirs("/run/sshd", exist_ok=True)
-        server = self.daemon(found["sshd"], "-D", "-e", "-f", self.room / f"{name}.sshd")
-        ask = [found["ssh"], "-F", self.room / "ssh_config", name, "true"]
-        self.waits_for(lambda: subprocess.run(ask, capture_output=True).returncode == 0 or server.poll() is not None, 20)
-        self.equals(f"the server of ssh {name}: {(self.room / 'sshd.out').read_text()[-600:]}", "its status", None, server.poll())
-        return server
-
 
 # A controller and a node of Slurm on this machine alone, in a folder of their own.
 SLURM = """ClusterName=trial
@@ -185,6 +129,26 @@ class Slurm(Thousand):
         self.equals("40 tasks", f"at least ten were requeued: {requeued}", True, requeued >= 10)
         self.waits_for(self.has_ended, 10 * PATIENCE)
         self.gathers(self.lines, MOST_ROUNDS)
+
+    def test_a_text_under_slurm_whose_time_is_nearly_over_is_put_into_the_queue(self):
+        """And once it is cancelled, it stays so. A signal comes up to a minute earlier than it is asked for."""
+        self.found = self.wants("munged", "slurmctld", "slurmd", "sbatch", "scancel", "scontrol", "squeue", "sinfo")
+        texts = self.room / "texts"
+        texts.mkdir()
+        (texts / "one.ic").write_text(f"{ADD} <r|Add(r,Z)={numeral(9)}>\n")
+        (texts / "two.ic").write_text(f"{LOOP.text}\n")
+        self.start()
+        self.asks("sbatch", "--chdir", self.room, "--array=1-2", "--time=2", "--signal=B:USR1@100", SCRIPTS / "array.sbatch", SCRIPTS, "texts", "--seconds", 1)
+        state = lambda: [it for _, it in self.queue()]  # noqa: E731
+        self.waits_for(lambda: (texts / "two.ic.out").exists() and state() == ["RUNNING"], 60, state)
+        self.waits_for(lambda: state() == ["PENDING"], 180, state)
+        left = {it.name for it in texts.iterdir()}
+        wanted = {"one.ic", "one.ic.answer", "one.ic.figures", "one.ic.lock", "two.ic", "two.ic.keep", "two.ic.keep.2", "two.ic.lock"}
+        self.equals("texts", "the files", wanted, left)
+        self.asks("scancel", self.queue()[0][0])
+        self.waits_for(self.has_ended, 60, state)
+        time.sleep(5)
+        self.equals("squeue", "what is left", [], self.queue())
 
     def has_ended(self):
         """Whether no task is left."""

@@ -3,28 +3,15 @@ itself, and many of them under GNU parallel."""
 
 import fcntl
 import os
-import shutil
 import signal
 import time
 
 from known import LOOP, TWO
-from program import PROGRAM, Server, grows_to, run
+from program import Server, grows_to, run
 from shards import SCRIPTS, Shards, drawn_jobs
 
 TWICE = f"submit two {TWO.text}"
 SHARD = "jobs/00001"
-
-# Stands for a program that a shard calls: counts the calls of all, and at the one of the variable kills the shard's shell,
-# before the program is run or after it.
-TOOL = """#!/bin/sh
-calls=$(($(cat {room}/calls) + 1))
-echo "$calls" >{room}/calls
-[ "$calls" != "$BEFORE" ] || {{ kill -9 "$PPID"; exit 1; }}
-{program} "$@"
-status=$?
-[ "$calls" != "$AFTER" ] || kill -9 "$PPID"
-exit "$status"
-"""
 
 
 class Lives(Shards):
@@ -84,17 +71,11 @@ class Lives(Shards):
 
     def test_a_shard_that_is_killed_before_or_after_each_program_that_it_calls_goes_on(self):
         """It calls five: flock, icserve, sync, mv and sync."""
-        tools = {it: shutil.which(it) for it in ("flock", "sync", "mv")} | {"icserve": PROGRAM}
-        for name, program in tools.items():
-            (self.room / name).write_text(TOOL.format(room=self.room, program=program))
-            (self.room / name).chmod(0o755)
-        path = f"{self.room}:{os.environ['PATH']}"
+        self.counts_calls("flock", "sync", "mv")
         for moment in ("BEFORE", "AFTER"):
             for call in range(1, 7):
                 folder = self.cut([TWICE, f"submit loop 300 {LOOP.text}"], folder=f"jobs-{moment}-{call}")
-                (self.room / "calls").write_text("0")
-                killed = {"PATH": path, "ICSERVE": str(self.room / "icserve"), moment: str(call)}
-                with self.engine(SCRIPTS / "shard", folder / "00001", env=killed) as shard:
+                with self.killed_at(moment, call, SCRIPTS / "shard", folder / "00001") as shard:
                     status, said = shard.end()
                     self.equals(shard.command, f"status; it said {said}", -signal.SIGKILL if call < 6 else 0, status)
                     self.waits_for(lambda: not shard.left(), told=shard.left)

@@ -71,6 +71,10 @@ class Devices(Trial):
         self.serves(path, "list", ["jobs"], env=shimmed())
 
 
+# Where it isn't said how many threads there may be, the number of processors is looked for in files of the system.
+ALONE = {"serve": ("--workers", "1")}
+
+
 class Standing(Trial):
     def closed(self, closing, *words, **how):
         """Runs the program with a standard stream closed, as a shell says it: `<&-`."""
@@ -99,7 +103,7 @@ class Standing(Trial):
         """Where no standard stream is closed. `create` opens its folder first."""
         path, log = self.disk(), self.room / "log"
         for words, place in (("create", ": its folder"), ("serve", ""), ("attend", ""), ("dump", ""), ("inspect", "")):
-            ran = run(words, "--disk", path, env=shimmed("disk 1 once", log))
+            ran = run(words, "--disk", path, *ALONE.get(words, ()), env=shimmed("disk 1 once", log))
             self.equals(ran.command, "whether a call went wrong", True, was_refused(log))
             told = f"{path}{place}: open: input/output error of the device\n"
             self.equals(ran.command, "what is told", (3, told), (ran.status, ran.after.decode()))
@@ -109,7 +113,7 @@ class Standing(Trial):
         for closing in ("<&-", ">&-"):
             for word in ("create", "serve", "attend", "dump", "inspect"):
                 env = shimmed("disk 1 once", log)
-                ran = self.closed(closing, word, "--disk", path, env=env)
+                ran = self.closed(closing, word, "--disk", path, *ALONE.get(word, ()), env=env)
                 told = f"icserve: device\n{STAND_IN}: open: input/output error of the device\n"
                 self.equals(ran.command, "how it ends", (3, b"", told), (ran.status, ran.out, (ran.err + ran.after).decode()))
 

@@ -61,7 +61,7 @@ class Rows(Trial):
             self.refuses("draw", given=" " * (262_145 - len(text)) + text, line="bad limit", status=1)
 
     def test_words_that_ask_for_nothing_have_status_2(self):
-        for words in (["draw", "F", "G"], ["draw", "--rounds", "1"], ["draw", "--format", "svg"]):
+        for words in (["draw", "F", "G"], ["draw", "--rounds"], ["draw", "--rounds", "x"], ["draw", "--format", "svg"]):
             ran = run(*words, given="<|>")
             self.equals(ran.command, "how it ends", (2, b"", b"error:"), (ran.status, ran.out, ran.err[:6]))
 
@@ -149,7 +149,9 @@ class Pictures(Trial):
         ends = {end.partition(":")[0] for it in graph.edges for end in it.ends}
         agents = {f"A{k}" for k in range(len(graph.agents))} | {f"J{j}" for j in range(graph.joints)}
         self.equals(text[:200], "the vertices of the picture", sorted(ends | agents), sorted(nodes))
-        self.equals(text[:200], "the edges of the picture", sorted("--".join(it.ends) for it in graph.edges), sorted(edges))
+        # Of a wire from an agent to itself, Graphviz may tell no ports.
+        told, wanted = (sorted(re.sub(r"(\w+):.*--\1:.*", r"\1--\1", it) for it in them) for them in (edges, map("--".join, (it.ends for it in graph.edges))))
+        self.equals(text[:200], "the edges of the picture", wanted, told)
         words = [it.text.strip() for it in xml.fromstring(picture).iter(f"{SVG}text")]
         symbols = sorted(it for it in words if re.fullmatch(r"[A-Z0-9]\w*", it) and not re.fullmatch(r"I\d+", it))
         ports = [str(i + 1) for _, arity in graph.agents for i in range(arity if arity > 2 else 0)]
@@ -175,7 +177,8 @@ class Pictures(Trial):
         for picture in pictures:
             name, _, count = picture.stem.rpartition("-")
             text = (TOP / "examples" / f"{name}.ic").read_text()
-            rules, _ = parts_of(text)
-            after = run("reduce", "--rounds", count, given=text).out.decode()
+            rules, after = parts_of(text)
+            for _ in range(int(count)):
+                after = run("once", given=rules + after).out.decode()
             with self.subTest(picture=picture.name):
                 self.shows(picture.read_bytes(), run("draw", given=rules + after).out.decode())

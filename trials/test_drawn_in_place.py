@@ -22,7 +22,7 @@ class DrawnInPlace(Trial):
     def setUp(self):
         super().setUp()
         self.drawn_from = self.draws()
-        self.seen = {"quiet": 0, "by rounds": 0, "cut": 0, "unending": 0, "stuck": 0}
+        self.seen = {"quiet": 0, "by rounds": 0, "cut": 0, "unending": 0, "stuck": 0, "circles": 0}
 
     def all_are_reduced(self, system):
         """Draws a quarter of the systems by this function, and reduces each."""
@@ -42,7 +42,8 @@ class DrawnInPlace(Trial):
         self.equals(ran.command, "status and interactions", (0, plain.interactions), (ran.status, made))
         wanted = plain.net()
         self.equals(ran.command, "the model's net", wanted, nets.form_of(rules, ran.out))
-        self.equals(ran.command, "standard error", self.stuck_line(ran.out), rest)
+        self.equals(ran.command, "standard error", self.stuck_line(ran.out) + nets.circle_line(ran.out), rest)
+        self.seen["circles"] += b"circle" in rest
         self.equals(ran.command, "names for which a term could be put", [], nets.puttable(ran.out))
         by_rounds = run("reduce", "--rounds", 10_000, given=text)
         if by_rounds.status == 0:
@@ -92,7 +93,7 @@ class DrawnInPlace(Trial):
 
     def test_systems(self):
         self.all_are_reduced(lambda it: draws.system(it, it.choice([1, 2, 3, 5]), it.choice([2, 3, 4])))
-        self.have_come(quiet=80, by_rounds=70, cut=20, stuck=20)
+        self.have_come(quiet=80, by_rounds=70, cut=20, stuck=20, circles=5)
 
     def test_systems_with_many_active_pairs(self):
         def system(drawn):

@@ -116,7 +116,7 @@ class DrawnRounds(ModelTrial):
         self.makes_rounds(texts, [1, 1, 5, 60], "--workers", drawn.randint(1, 64))
 
     def test_rounds_of_a_thousand_pairs_with_any_number_of_workers(self):
-        """The serving's own thread makes them, however many workers there may be."""
+        """The serving's own thread makes those of one job, however many workers there may be."""
         drawn = self.draws()
         for workers in [1, 2, 3, 4, 7, 8, 16, 31, 32, 33, 63, 64] + [drawn.randint(1, 64) for _ in range(8)]:
             count = drawn.choice([999, 1_000, 1_001, drawn.randint(1_000, 1_365)])
@@ -126,9 +126,15 @@ class DrawnRounds(ModelTrial):
             self.makes_rounds([loops(count, names)], [1, 2], "--workers", workers)
 
     def test_threads_over_drawn_pairs(self):
-        """From 4,000 equations on a round is made by threads. Of pairs of so few nodes some fire, and some are stuck."""
+        """Jobs of 2,000 equations and more are made by threads. Of pairs of so few nodes some fire, and some are stuck."""
         drawn = self.draws()
         for _ in range(20):
-            count = drawn.choice([3_999, 4_000, 4_001, 4_096])
-            pairs = ",".join(drawn.choice(["A=B", "B=A", "C=C", "C=A", "B=B"]) for _ in range(count))
-            self.makes_rounds([f"{{A><B;C><C}}<|{pairs}>"], [1, 1], "--workers", drawn.randint(1, 64))
+            texts = []
+            for _ in range(drawn.randint(2, 5)):
+                count = drawn.choice([999, 1_000, 1_001, 4_096])
+                pairs = ",".join(drawn.choice(["A=B", "B=A", "C=C", "C=A", "B=B"]) for _ in range(count))
+                texts.append(f"{{A><B;C><C}}<|{pairs}>")
+            lines = [f"submit {name} {text}" for name, text in zip("abcde", texts)]
+            for rounds in (3, 20):
+                lines += [f"run {rounds}", *(f"fetch {name}" for name in "abcde"[: len(texts)]), "list"]
+            self.serve(self.new_disk(), lines, "--workers", drawn.randint(1, 64))

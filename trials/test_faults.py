@@ -2,7 +2,7 @@
 a write. Each fault gives the defined line and status, and leaves the disk to be opened with all that was answered."""
 
 from disks import EMPTY, SECOND, put, slot
-from known import ADD, LOOP, TWO, WIDE
+from known import ADD, LOOP, TWO, WAVES, WIDE
 from program import TOP, Server, run
 from shim import noted, shimmed, was_refused
 from stops import Stops
@@ -12,7 +12,8 @@ LOOPING = [f"submit loop {LOOP.text}", "run 5", "fetch loop", "pause loop", "pau
 LOOPING += ["resume loop", "resume loop", "run 2", "fetch loop"]
 SUMS = [f"submit two {TWO.text}", "run 1", "list", "", f"submit more {TWO.text}"]
 SUMS += ["fetch two", "run 10", "cancel two", "list"]
-ROUND = [f"submit wide {WIDE.text}", "list", "run 1", "fetch wide"]
+# Two jobs whose rounds are made in a lap.
+LAP = [f"submit a {WAVES.text}", f"submit b {WIDE.text}", "list", "run 2", "fetch b"]
 
 
 class Faults(Stops):
@@ -182,7 +183,10 @@ class Faults(Stops):
         return self.in_turn(what, ways, attempt)
 
     def spoken(self, disk, lines, env, *words):
-        """A server that is asked line by line until it ends."""
+        """A server that is asked line by line until it ends. Where it isn't said how many threads there may be it would look for
+        the number of processors, in files of the system."""
+        if "--workers" not in words:
+            words = (*words, "--workers", "1")
         with Server(disk, *words, env=env) as server:
             for line in lines:
                 server.send(line)
@@ -269,7 +273,7 @@ class Faults(Stops):
             after = calls[calls.index("E") + 1 :] if "E" in calls else []
             self.equals(ran.command, f"writes and syncs after it went wrong: {call}", [], [it for it in after if it in "WS"])
 
-        for words in (["create", "--overwrite"], ["serve"], ["attend", "--runners", 0, script]):
+        for words in (["create", "--overwrite"], ["serve", "--workers", 1], ["attend", "--runners", 0, script]):
             self.are(10, self.in_turn("disk", ["once"], lambda *it, words=words: attempt([*words, "--disk", disk], *it)))
 
     def test_create_syncs_a_new_file_and_its_folder_before_it_writes(self):
@@ -318,37 +322,36 @@ class Faults(Stops):
                 self.are(1, self.in_turn(what, [how], attempt))
 
     def test_each_start_of_a_thread_is_refused_in_turn(self):
-        """Rounds of 4,000 equations are made by threads: a thread that can't be started is `pool`, and nothing is lost."""
-        calls = self.served(ROUND, ("once", "on"), "thread", (4, "pool"), words=("--workers", "4"))
-        self.equals("a round of 4,000 equations by 4 workers", "threads", 4, calls)
-        self.have_come((4, "pool"))
+        """Laps are made by threads. Where one can't be started fewer make them, and the answers are the same."""
+        calls = self.served(LAP, ("once", "on"), "thread", words=("--workers", "4"), may_go_well=True)
+        self.equals("a lap by 4 workers", "threads", 3, calls)
 
-    def test_rounds_of_4000_equations_and_more_are_made_by_as_many_threads_as_said(self):
-        """Smaller ones are made by the thread that serves. The shim counts the threads that are started."""
+    def test_jobs_of_2000_equations_and_more_together_are_made_by_as_many_threads_as_said(self):
+        """Rounds of fewer, of one job or one at a time are made by the thread that serves. The shim counts the threads."""
         disk = self.room / "jobs.disk"
-        for count in (1, 1000, 3999, 4000, 4096):
+        for count, asked in ((1, 2), (500, 2), (999, 2), (1000, 2), (2048, 2), (2048, 1)):
             for workers in (1, 2, 7, 64):
                 put(disk, slot(1, EMPTY))
-                lines = ["submit a {A><B} <|" + ",".join(["A=B"] * count) + ">", "run 1"]
+                lines = [f"submit {name} {{A><B}} <|" + ",".join(["A=B"] * count) + ">" for name in "ab"] + [f"run {asked}"]
                 counts = shimmed(f"thread {10**9} once", self.log)
-                ran = self.serves(disk, lines, ["accepted", "ran 1"], "--workers", workers, env=counts)
+                ran = self.serves(disk, lines, ["accepted", "accepted", f"ran {asked}"], "--workers", workers, env=counts)
                 threads = next(it.at for it in noted(self.log) if it.kind == "C")
-                made = workers if workers > 1 and count >= 4000 else 0
-                self.equals(ran.command, f"threads for {count} equations", made, threads)
+                made = workers - 1 if count >= 1000 and asked > 1 else 0
+                self.equals(ran.command, f"threads for two jobs of {count} equations, and {asked} rounds", made, threads)
 
-    def test_drawn_growths_of_a_round_by_threads_are_refused(self):
+    def test_drawn_growths_of_a_lap_by_threads_are_refused(self):
         draw, disk = self.draws(), self.room / "jobs.disk"
 
         def attempt(call):
             put(disk, slot(1, EMPTY))
-            ran = self.spoken(disk, ROUND, shimmed(call, self.log), "--workers", "3")
+            ran = self.spoken(disk, LAP, shimmed(call, self.log), "--workers", "3")
             if ran.status or ran.err:
                 self.is_fault(ran, call, (4, "memory"), (4, "pool"), (3, "memory"), (3, "device"))
-            self.found(ran, disk, self.may_be_left(ran, ROUND, (), 100, ahead=1))
+            self.found(ran, disk, self.may_be_left(ran, LAP, (), 100, ahead=1))
 
         attempt(f"growth {10**9} once")
         growths = next(it.at for it in noted(self.log) if it.kind == "C")
-        self.are(3000, growths)
+        self.are(200, growths)
         for number in sorted(draw.sample(range(1, growths + 1), 150)):
             attempt(f"growth {number} {draw.choice(('once', 'on'))}")
-        self.have_come((4, "memory"), (4, "pool"))
+        self.have_come((4, "memory"))

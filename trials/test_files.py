@@ -9,7 +9,7 @@ from program import IN_MEMORY, PROGRAM, Trial, run
 # The words over a text, and some with options that they may have, with a text.
 WORDS = [([word], TEXTS[kind]) for word, kind in TEXT_WORDS.items()] + [
     (["reduce", "--partial", "--steps", "1000"], TWO.text),
-    (["reduce", "--rounds=9", "--workers", "3"], TWO.text),
+    (["reduce", "--rounds=9", "--partial"], TWO.text),
     (["trace", "--format", "svg"], TWO.text),
     (["trace", "--format", "json"], TWO.text),
 ]

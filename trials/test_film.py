@@ -11,13 +11,16 @@ from html.parser import HTMLParser
 from draws import system, system_text
 from graphs import graph_of
 from known import ADD
+from model import read_system
+from nets import form_of
 from program import IN_MEMORY, PATIENCE, PROGRAM, TOP, Trial, run
 from test_draw import parts_of
 
 FILM = TOP / "film"
 
 # Systems beside the examples: names that join two terms before the first round, points, circles, open ends, a stuck pair, an
-# agent that is its own neighbour, rules that join and rules that are their own swap, and nothing at all.
+# agent that is its own neighbour, rules that join and rules that are their own swap, nothing at all, and a name after which no
+# other has a number.
 SYSTEMS = [
     "{} <|>",
     "{A><B} <|x=A,x=B>",
@@ -26,6 +29,7 @@ SYSTEMS = [
     "{A(x,y)><A(y,x); A(B(x),y)><B(A(x,y))} <r,s|A(r,x)=B(y),A(s,y)=B(x),A(u,v)=A(v,u),A(p,q)=A(E,F)>",
     "{A(B(x))><B(A(x))} <|A(x)=B(x),A(y)=B(z),A(z)=B(y)>",
     "{0(x,y,z)><1(z,x,y)} <t|0(t,T,t1)=1(t1,E(t2),t2),s=t3>",
+    "{A(B(x))><B(A(x))} <v165191049|v165191049=A(B(C)),A(p)=B(q),A(s)=B(t)>",
 ]
 
 # What a page's own script is tried with: the keys and clicks that are made, and where each leads.
@@ -137,7 +141,7 @@ class Films(Trial):
         self.equals(text, "the frames", [f"round-{k}" for k in range(len(told))], [it["id"] for it in frames])
         self.equals(text, "where the bars lead", [f"#{it['id']}" for it in frames], [it["bar"] for it in frames])
         for count, frame in enumerate(frames):
-            after = run("reduce", "--rounds", count, given=text).out.decode()
+            after = run("reduce", "--rounds", count, given=text).out.decode() if count else "".join(text[text.rfind("}") + 1 :].split()) + "\n"
             self.equals(text, f"the configuration after {count} rounds", after, frame["text"] + "\n")
             nodes = rows[count - 1][2] if count else len(re.findall(r"\w+", after))
             self.equals(text, f"{nodes} nodes told", True, re.search(rf"\b{nodes} nodes?\b", frame["told"]) is not None)
@@ -173,6 +177,25 @@ class Films(Trial):
             with self.subTest(text=text[:60]):
                 self.shows(text, *words)
 
+    def test_a_film_begins_after_some_rounds(self):
+        loop = "{A(B(x))><B(A(x))} <|A(x)=B(x)>"
+        for text, begin, most in (((TOP / "examples/sort.ic").read_text(), 7, 5), ((TOP / "examples/church.ic").read_text(), 3, 99), (loop, 1_000, 3)):
+            frames = self.page("--from", begin, "--rounds", most, given=text).frames
+            rows = run("trace", "--rounds", begin + most, given=text).out.decode().splitlines()
+            self.equals(text, "the frames", [f"round-{k}" for k in range(begin, len(rows))], [it["id"] for it in frames])
+            self.equals(text, "where the bars lead", [f"#{it['id']}" for it in frames], [it["bar"] for it in frames])
+            rules = read_system(text.encode())[0]
+            for count, frame in enumerate(frames, begin):
+                after = run("reduce", "--rounds", count, given=text).out
+                self.equals(text, f"the net after {count} rounds", form_of(rules, after), form_of(rules, frame["text"].encode()))
+                fires = sum({"wire", "fires"} <= {*it} for it in frame["parts"])
+                if count + 1 < len(rows):
+                    self.equals(text, f"the pairs of round {count + 1}", int(rows[count + 1].split("\t")[1]), fires)
+
+    def test_a_film_that_would_begin_after_the_end_shows_the_end(self):
+        frames = self.page("--from", 99, given=(TOP / "examples/addition.ic").read_text()).frames
+        self.equals("--from 99", "the frames", ["round-3"], [it["id"] for it in frames])
+
     def test_drawn_systems_are_shown_so_too(self):
         draws = self.draws()
         for count in range(15):
@@ -188,15 +211,11 @@ class Films(Trial):
         self.equals("addition.ic", "its end", True, "No step is possible" in told[3])
         (told,) = (it["told"] for it in self.page(given="{A><B} <|A=A>").frames)
         self.equals("A=A", "what is stuck", True, "there is no rule for A><A" in told)
+        given = "{A><B;K(x)><L(x)} <|A=A,A=B,x=K(x)>"
+        dashed = self.film(given=given).out.decode().count("stroke-dasharray")
+        self.equals(given, "how many wires of its frames are dashed: of a pair without a rule, twice", 2, dashed)
         told = [it["told"] for it in self.page("--rounds", 1, given=f"{ADD} <r|Add(r,Z)=S(S(Z))>").frames]
         self.equals("Add(r,Z)=S(S(Z))", "where it is cut", True, "The film ends here" in told[1])
-
-    def test_names_that_rounds_take_may_pass_those_of_texts(self):
-        rules, last = "{A(B(x))><B(A(x))}", "v165191049"
-        few, many = (self.page("--rounds", 3, given=f"{rules} <{name},q|A(y)=B(y),{name}=q>").frames for name in ("z", last))
-        self.equals(last, "the names of its last frame", True, "x165191049" in many[2]["text"])
-        for one, other in zip(few, many):
-            self.equals(last, "the net that a frame shows", *([sorted(it["parts"]), it["agents"]] for it in (one, other)))
 
     def test_names_of_files_are_escaped_and_the_same_bytes_come_again(self):
         path = self.room / "a<b>&.ic"

@@ -16,16 +16,16 @@ from program import IN_MEMORY, PROGRAM, TOP, Trial, as_bytes, run
 from shim import shimmed
 from worked_rows import expanded, rows
 
-# The most interactions and places that may be asked for.
+# The most interactions, and names and agents, that may be asked for.
 MOST = 2**62 - 1
 
 STATS = re.compile(
-    rb"icserve: interactions (\d+)(?:, name steps (\d+))?, places (\d+), equations (\d+), threads (\d+), shared (\d+), seconds (?:0\.000|\d+\.\d{3}, interactions a second \d+)\n"
+    rb"icserve: interactions (\d+)(?:, name steps (\d+))?, nodes (\d+), equations (\d+), threads (\d+), shared (\d+), seconds (?:0\.000|\d+\.\d{3}, interactions a second \d+)\n"
     rb"icserve: (no interactions|rule \d+ \S+><\S+: \d+ interactions?(?:, rule \d+ \S+><\S+: \d+ interactions?)*)\n"
 )
-REACHED = re.compile(rb"interactions (\d+), places (\d+), equations (\d+)(?:, --nodes (\d+))?\n")
+REACHED = re.compile(rb"interactions (\d+), nodes (\d+), equations (\d+)(?:, --nodes (\d+))?\n")
 
-# How many interactions a net makes between two looks at its size.
+# How many interactions are made at a time, at most.
 PIECE = 4_096
 
 # Each pair of it becomes two, of agents that are larger by one each time.
@@ -46,7 +46,7 @@ def numeral(number):
 
 
 def stats_of(err):
-    """How many interactions and places a run with `--stats` tells, and what else it says on standard error. The interactions
+    """How many interactions, and names and agents, a run with `--stats` tells, and what else it says on standard error. The interactions
     of all rules are those in all, else none are told."""
     told = STATS.match(err)
     if not told or sum(map(int, re.findall(rb": (\d+)", told[7]))) != int(told[1]):
@@ -66,7 +66,7 @@ def figures_of(err):
     told = STATS.match(err)
     if not told:
         return None, err
-    names = ("interactions", "name_steps", "places", "equations", "threads", "shared")
+    names = ("interactions", "name_steps", "nodes", "equations", "threads", "shared")
     figures = {name: it and int(it) for name, it in zip(names, told.groups())}
     fired = re.findall(rb"rule (\d+) (\S+): (\d+)", told[7])
     figures["fired"] = {int(rule): (pair.decode(), int(count)) for rule, pair, count in fired}
@@ -88,13 +88,13 @@ class InPlace(Trial):
     def reduces(self, *words, given, out, err=b"", status=0, interactions=None, **how):
         """Fails unless the text is reduced in place to this line, with so many interactions where they are given."""
         ran = run("reduce", "--stats", *words, given=given, **how)
-        made, places, rest = stats_of(ran.err)
+        made, nodes, rest = stats_of(ran.err)
         if made is None:
             self.told(ran.command, "a line of figures comes first", STATS.pattern, ran.err)
         if interactions is not None:
             self.equals(ran.command, "interactions", interactions, made)
         self.ended(ran._replace(err=rest), out, err, status)
-        return made, places
+        return made, nodes
 
     def is_net(self, command, text, came, wanted):
         """Fails unless the line that came is the net of a configuration, over the symbols of a text."""
@@ -118,7 +118,7 @@ class Rows(InPlace):
                     self.equals(ran.command, "status and what is told", (5, int(count), b"icserve: not done\n"), (ran.status, *stats_of(ran.err)[::2]))
                     self.is_net(ran.command, expanded(text), ran.out, told[1])
                 else:
-                    err = [b"icserve: stuck " + told[3]] if told[3] else b""
+                    err = (b"icserve: stuck " + told[3] + b"\n" if told[3] else b"") + nets.circle_line(told[1])
                     self.reduces("--steps", count, given=expanded(text), out=[told[1]], err=err, interactions=int(told[2]))
                 seen.add(answer.split(b" ")[0] if not told else "stuck" if told[3] else told[4] or "done")
         self.equals("reduce", "ends that no row has", set(), {b"bad", "stuck", b"not done", "done"} - seen)
@@ -174,10 +174,9 @@ class Bounds(InPlace):
         """A net that grows without end is cut by its bound of what it holds, if one thread reduces it. Hands on what was printed."""
         ran = run("reduce", "--workers", 1, "--nodes", most, *words, given=DOUBLES, **how)
         self.equals(ran.command, "status and line", (1, b"icserve: overgrown\n"), (ran.status, ran.err))
-        told = REACHED.fullmatch(ran.after)
-        made, places, left, bound = map(int, told.groups())
-        self.equals(ran.command, f"it is cut at the first look that finds too much: {ran.after}", (0, most), (made % PIECE, bound))
-        self.equals(ran.command, f"there is more, but no more than a piece of a run adds: {ran.after}", True, most < places + left <= most + 9 * PIECE + 8)
+        made, nodes, left, bound = map(int, REACHED.fullmatch(ran.after).groups())
+        self.equals(ran.command, "the bound that is told", most, bound)
+        self.equals(ran.command, f"the bound is passed, by no more than a sixteenth or one interaction: {ran.after}", True, most < nodes <= most + max(most // 16, 8))
         return ran
 
     def test_a_net_that_grows_without_end_is_cut_by_its_bound(self):
@@ -185,15 +184,14 @@ class Bounds(InPlace):
             self.equals("reduce", "standard output", b"", self.grows(most=most).out)
 
     def test_equations_that_pile_up_are_bounded(self):
-        """Equations without a rule count, though the net keeps few places. A bound that they don't meet changes nothing."""
+        """The agents of equations without a rule count. A bound that they don't meet changes nothing."""
         for most in (0, 20_000, 200_000):
             ran = run("reduce", "--workers", 1, "--nodes", most, given=PILES)
             self.equals(ran.command, "how it ends", (1, b"", b"icserve: overgrown\n"), (ran.status, ran.out, ran.err))
-            made, places, left, bound = map(int, REACHED.fullmatch(ran.after).groups())
-            self.equals(ran.command, f"few places, and all equations: {ran.after}", (True, 2 * made + 1, most), (places < 10, left, bound))
-            before = places + 2 * (made - PIECE) + 1
-            is_first = made % PIECE == 0 and most < places + left and (made == PIECE or before <= most)
-            self.equals(ran.command, f"it is cut at the first look that finds too much: {ran.after}", True, is_first)
+            made, nodes, left, bound = map(int, REACHED.fullmatch(ran.after).groups())
+            self.equals(ran.command, f"all equations and their agents: {ran.after}", (2 * made + 1, most), (left, bound))
+            self.equals(ran.command, f"names beside four agents an interaction: {ran.after}", True, 4 * made <= nodes < 4 * made + 10)
+            self.equals(ran.command, f"the bound is passed, by no more than a sixteenth or one interaction: {ran.after}", True, most < nodes <= most + max(most // 16, 12))
         whole = run("reduce", "--quiet-answer", "--steps", 30_000, given=PILES)
         self.equals(whole.command, "how it ends", (5, b"icserve: not done\n"), (whole.status, whole.err))
 
@@ -251,7 +249,7 @@ class HardNets(InPlace):
             ("{A(x)><B(C(x))} <|A(x)=B(x)>", "<|x=C(x)>"),
         ):
             ran = run("reduce", given=text)
-            self.equals(ran.command, "status and standard error", (0, b""), (ran.status, ran.err))
+            self.equals(ran.command, "status and standard error", (0, nets.circle_line(ran.out)), (ran.status, ran.err))
             self.is_net(ran.command, text, ran.out, wanted)
 
     def test_what_hangs_at_a_circle_is_put_into_it(self):
@@ -265,10 +263,10 @@ class HardNets(InPlace):
             ("{E(x,y)><F(x,y)} <|E(p,x)=F(A(Z),B(p,x))>", "<|a=B(A(Z),a)>"),
         ):
             ran = run("reduce", given=text)
-            self.equals(ran.command, "status and standard error", (0, b""), (ran.status, ran.err))
+            self.equals(ran.command, "status and standard error", (0, nets.circle_line(ran.out)), (ran.status, ran.err))
             self.is_net(ran.command, text, ran.out, wanted)
             self.equals(ran.command, "names for which a term could be put", [], nets.puttable(ran.out))
-        self.reduces(given="{} <|x=A(Z),y=B(x,y)>", out=["<|a=B(A(Z),a)>"], interactions=0)
+        self.reduces(given="{} <|x=A(Z),y=B(x,y)>", out=["<|a=B(A(Z),a)>"], err=["icserve: circle at B"], interactions=0)
 
     def test_a_long_tail_at_a_circle_is_put_into_it(self):
         names = [model.name_text(it) for it in range(2_000)]
@@ -277,7 +275,7 @@ class HardNets(InPlace):
         for order in (tail, tail[::-1], tail[::2] + tail[1::2]):
             ends = [f"{names[0]}=Z", f"z9999=A({names[-1]},z9999)"]
             for equations in (ends + order, order + ends):
-                self.reduces(given="{} <|" + ",".join(equations) + ">", out=[f"<|{whole}>"], interactions=0)
+                self.reduces(given="{} <|" + ",".join(equations) + ">", out=[f"<|{whole}>"], err=["icserve: circle at A"], interactions=0)
 
     def test_rings_through_many_names_and_many_rules_become_circles(self):
         names = [model.name_text(it) for it in range(3_000)]
@@ -293,7 +291,7 @@ class HardNets(InPlace):
             (f"{{P(A(x))><Q(x)}} <|{pairs}>", "<|x=" + "A(" * 301 + "x" + ")" * 301 + ">", 301),
         ):
             ran = run("reduce", "--stats", given=text)
-            self.equals(ran.command, "status and what is told", (0, made, b""), (ran.status, *stats_of(ran.err)[::2]))
+            self.equals(ran.command, "status and what is told", (0, made, nets.circle_line(ran.out)), (ran.status, *stats_of(ran.err)[::2]))
             self.is_net(ran.command, text, ran.out, wanted)
 
     def test_a_list_that_is_copied_is_there_twice(self):
@@ -323,11 +321,11 @@ class HardNets(InPlace):
         self.reduces(given=text, out=["<Delta(a,b),Delta(c,d),Gamma(a,c),Gamma(b,d)|>"], interactions=1)
 
     def test_name_steps_and_each_rule_are_told_at_a_quiet_end(self):
-        pace = rb", places %d, equations %d, threads 1, shared 0, seconds (?:0\.000|[.\d]+, interactions a second \d+)\n"
+        pace = rb", nodes %d, equations %d, threads 1, shared 0, seconds (?:0\.000|[.\d]+, interactions a second \d+)\n"
         two = f"{ADD} <r|Add(r,S(Z))=S(Z)>"
         for words, told in (
             ([], b"icserve: interactions 2, name steps 4" + pace % (5, 0) + b"icserve: rule 1 Add><Z: 1 interaction, rule 2 Add><S: 1 interaction\n"),
-            (["--steps", 0], b"icserve: interactions 0" + pace % (4, 1) + b"icserve: no interactions\nicserve: not done\n"),
+            (["--steps", 0], b"icserve: interactions 0" + pace % (6, 1) + b"icserve: no interactions\nicserve: not done\n"),
         ):
             ran = run("reduce", "--stats", "--workers", 1, *words, given=two)
             self.equals(ran.command, f"{ran.err} is as {told}", True, bool(re.fullmatch(told, ran.err)))
@@ -339,12 +337,13 @@ class HardNets(InPlace):
         yield "{} <a,b|>", [], "quiet", 0
         yield f"{POWER} <r|Exp(r)={numeral(drawn.randint(3, 9))}>", [], "quiet", 0
         yield "{A><B} <|C=D>", [], "quiet", 0
+        yield "{} <r|Add(r,x)=x>", [], "quiet", 0
         yield two, ["--steps", drawn.randint(0, 1)], "steps", 5
         yield LOOP.text, ["--steps", drawn.randint(0, 9_999)], "steps", 5
-        yield DOUBLES, ["--nodes", drawn.randint(100, 9_999), "--workers", 1], "places", 1
+        yield DOUBLES, ["--nodes", drawn.randint(100, 9_999), "--workers", 1], "nodes", 1
 
     def test_figures_as_an_object_are_those_as_lines(self):
-        fields = ["end", "stuck", "interactions", "name_steps", "places", "equations", "threads", "shared", "milliseconds", "interactions_a_second", "by_rule"]
+        fields = ["end", "stuck", "circle", "interactions", "name_steps", "nodes", "equations", "threads", "shared", "milliseconds", "interactions_a_second", "by_rule"]
         for text, words, end, status in self.shown():
             lines = run("reduce", "--stats", *words, given=text)
             told, rest = figures_of(lines.err)
@@ -361,8 +360,8 @@ class HardNets(InPlace):
                 rules = [it.split("><") for it in text[1:].partition("}")[0].split(";") if it]
                 pairs = ["><".join(re.match(r"\s*(\w+)", side)[1] for side in sides) for sides in rules]
                 self.equals(ran.command, "rules", pairs, [it["rule"] for it in came["by_rule"]])
-                stuck = f"icserve: stuck {came['stuck']}\n".encode() if came["stuck"] else b""
-                self.equals(ran.command, "the stuck pair", rest if end == "quiet" else b"", stuck)
+                lines = [f"icserve: {word} {came[name]}\n" for name, word in (("stuck", "stuck"), ("circle", "circle at")) if came[name]]
+                self.equals(ran.command, "the stuck pair and the circle", rest if end == "quiet" else b"", "".join(lines).encode())
                 pace = came["milliseconds"] and came["interactions"] * 1000 // came["milliseconds"] or None
                 self.equals(ran.command, "interactions a second", pace, came["interactions_a_second"] or None)
 
@@ -393,22 +392,22 @@ class HardNets(InPlace):
             ran = run("reduce", "--quiet-answer", "--stats", "--format=json", given=text)
             self.equals(ran.command, "how it ends", (1, b"", told.err, told.after), (ran.status, ran.out, ran.err, ran.after))
 
-    def test_places_are_used_again(self):
-        """A net that stays small takes few places, however many interactions it makes."""
+    def test_a_net_that_stays_small_has_few_nodes(self):
+        """However many interactions it makes."""
         pairs = ",".join(f"A(x{it})=B(x{it})" for it in range(1, 1_001))
         for text, most in ((LOOP.text, 10), (f"{{A(B(x))><B(A(x))}} <|{pairs}>", 4_010)):
             ran = run("reduce", "--steps", 300_000, "--stats", given=text)
-            made, places, _ = stats_of(ran.err)
+            made, nodes, _ = stats_of(ran.err)
             self.equals(ran.command, "interactions", 300_000, made)
-            self.equals(ran.command, f"at most {most} places: {places}", True, places <= most)
+            self.equals(ran.command, f"at most {most} nodes: {nodes}", True, nodes <= most)
 
     def test_names_that_join_names_are_put_through(self):
-        """A net of few nodes takes few places, however often its rules join names."""
+        """A net of few nodes keeps few, however often its rules join names."""
         for count in (1_000_000, 300_000):
             ran = run("reduce", "--steps", count, "--nodes", 20_000, "--stats", given=JOINS)
-            made, places, rest = stats_of(ran.err)
+            made, nodes, rest = stats_of(ran.err)
             self.equals(ran.command, "status, interactions and what else is told", (5, count, b"icserve: not done\n"), (ran.status, made, rest))
-            self.equals(ran.command, f"few places: {places}", True, places < 9_000)
+            self.equals(ran.command, f"few nodes: {nodes}", True, nodes < 9_000)
             self.is_net(ran.command, JOINS, ran.out, "<r|U(r,m,n)=K(m,n)>")
 
     def test_an_answer_comes_through_many_names(self):
@@ -416,8 +415,8 @@ class HardNets(InPlace):
         rules = "{A(U(y,z,z))><U(x,S(x),T(y));S(x)><T(x);Z><U(Q(a,B),a,C)}"
         for count in (100, 5_000, 100_000):
             given = f"{rules} <r|" + "A(" * count + "Z" + ")" * count + "=U(r,n,n)>"
-            _, places = self.reduces("--workers", 1, given=given, out=["<Q(C,B)|>"], interactions=2 * count + 1)
-            self.equals(given[:80], f"places beside those of the configuration: {places}", True, places < count + 10_000)
+            _, nodes = self.reduces("--workers", 1, given=given, out=["<Q(C,B)|>"], interactions=2 * count + 1)
+            self.equals(given[:80], f"few nodes at the end: {nodes}", True, nodes < 10_000)
 
     def test_circles_that_are_made_again_and_again_stay(self):
         """A circle of names is part of the net, whether names were put through since it was made or not."""

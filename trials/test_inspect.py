@@ -5,6 +5,7 @@ import os
 import re
 
 import model
+import nets
 import model_disk
 from against_model import ModelTrial
 from disks import EMPTY, HEAD, OLD_EMPTY, SECOND, disk_of, put, slot
@@ -40,10 +41,17 @@ def stuck(job):
     return next((f", stuck {left}><{right}" for left, right in pairs), "")
 
 
+def circle(job):
+    """Where the first circle of a job is closed, as it is told."""
+    texts = [[tuple(node if node >= 0 else (job.rules.symbols[~node][0],) for node in side) for side in it] for it in job.config.equations]
+    symbol = nets.circle_in(texts)
+    return f", circle at {symbol}" if symbol else ""
+
+
 def job_line(job):
     """The line of a job of the newest table."""
     pairs = sum(job.rules.find(*it) is not None for it in job.config.equations)
-    why = cause(job) if job.state == "halted" else stuck(job) if job.state == "done" else ""
+    why = cause(job) if job.state == "halted" else stuck(job) + circle(job) if job.state == "done" else ""
     return f"{job.name}: {job.state}, rounds {job.rounds}, nodes {model.nodes_of(job.config)}, active pairs {pairs}{why}"
 
 
@@ -81,7 +89,7 @@ def report(data):
 
 # The lines that tell what a file holds, with the fields of their objects.
 SLOT = re.compile(r"slot (?P<slot>[12]): (?:(?P<cut>cut off)|(?P<state>open|closed), number (?P<number>\d+), body (?P<size>\d+), (?P<body>.*))")
-JOB = re.compile(r"(?P<job>\S+): (?P<state>\w+), rounds (?P<rounds>\d+), nodes (?P<nodes>\d+), active pairs (?P<active_pairs>\d+)(?:, stuck (?P<stuck>\S+)|, (?P<halt>.*))?")
+JOB = re.compile(r"(?P<job>\S+): (?P<state>\w+), rounds (?P<rounds>\d+), nodes (?P<nodes>\d+), active pairs (?P<active_pairs>\d+)(?:(?:, stuck (?P<stuck>\S+))?(?:, circle at (?P<circle>\S+))?|, (?P<halt>.*))")
 
 
 def fields_of(line):
@@ -131,7 +139,7 @@ class Inspect(ModelTrial):
                 "held: slot 2",
                 "two: running, rounds 1, nodes 7, active pairs 1",
                 "loop: paused, rounds 0, nodes 4, active pairs 1",
-                "still: done, rounds 0, nodes 4, active pairs 0",
+                "still: done, rounds 0, nodes 4, active pairs 0, circle at x=x",
             ],
             ran.out.decode().splitlines()[2:],
         )

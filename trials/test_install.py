@@ -15,7 +15,7 @@ sys.path.insert(0, str(TOP / "share"))
 
 from pages import SCRIPTS  # noqa: E402
 
-TOPICS = (("language",), ("keep",))
+TOPICS = (("language",), ("limits",), ("keep",))
 
 
 def help_of(*words):
@@ -110,7 +110,7 @@ class Install(Trial):
         self.equals("icserve reduce su", "what is offered", ["sum.ic"], self.completed("reduce", "su"))
         self.equals("icserve create --disk su", "what is offered", ["sum.ic"], self.completed("create", "--disk", "su"))
         self.equals("icserve help re", "what is offered", ["reduce"], self.completed("help", "re"))
-        self.equals("icserve help l", "what is offered", ["language"], self.completed("help", "l"))
+        self.equals("icserve help l", "what is offered", ["language", "limits"], self.completed("help", "l"))
         self.equals("icserve help k", "what is offered", ["keep"], self.completed("help", "k"))
 
     def test_the_pages_are_rendered_without_a_warning(self):
@@ -172,15 +172,28 @@ class Releases(Trial):
         self.works(next(self.room.glob("icserve-*")), "")
         package = next((self.room / "one").glob("*.deb"), None)
         if package:
-            subprocess.run(["dpkg-deb", "-x", package, self.room / "root"], check=True)
-            self.works(self.room / "root/usr", "share/doc/icserve")
+            self.installs(package, self.room / "root")
+
+    def installs(self, package, root):
+        """Installs the package by Debian's own program below a folder, where it works, and removes it again."""
+        (root / "var/lib/dpkg/updates").mkdir(parents=True)
+        (root / "var/lib/dpkg/info").mkdir()
+        (root / "var/lib/dpkg/status").touch()
+        dpkg = ["dpkg", f"--root={root}", "--force-not-root", "--force-bad-path", "--force-depends"]
+        for words in (["--install", package], ["--purge", "icserve"]):
+            ran = subprocess.run([*dpkg, *map(str, words)], stdout=subprocess.PIPE, stderr=subprocess.STDOUT, timeout=60)
+            self.equals(words, f"the status; it said {ran.stdout}", 0, ran.returncode)
+            if words[0] == "--install":
+                self.works(root / "usr", "share/doc/icserve")
+        left = [it for it in root.rglob("*") if "var" not in it.relative_to(root).parts[:1]]
+        self.equals("dpkg --purge", "what is left", [], left)
 
     def works(self, root, pages):
         """Fails unless what stands below a folder works without anything of this clone."""
         env = {"PATH": f"{root}/bin:/usr/bin:/bin", "PYTHONPATH": str(root / "lib/python3/dist-packages"), "PYTHONDONTWRITEBYTECODE": "1"}
         how = {"env": env, "cwd": self.room}
         self.runs("reduce", root / pages / "examples/addition.ic", out=["<S(S(S(S(Z))))|>"], program=root / "bin/icserve", **how)
-        for it in ("film", "listen", "send"):
+        for it in ("film", "listen", "send", "page"):
             self.equals(it, "the status of its help", 0, run("--help", program=root / f"bin/icserve-{it}", **how).status)
         script = "import icserve; print(icserve.settle('<r|r=Z>'))"
         ran = run("-c", script, program=sys.executable, **how)

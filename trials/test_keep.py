@@ -22,18 +22,22 @@ from stops import Stops
 
 sys.path.insert(0, str(TOP / "bench"))
 
-from systems import ACKERMANN, church, numeral  # noqa: E402
+from systems import ACKERMANN, FIBONACCI, church, numeral  # noqa: E402
 
 FIGURES = ["--stats", "--format", "json"]
 HEAD = 17
 IMAGES = 3
 SECOND = "it is the second file of a reduction: name the first one, without .2"
-NO_SECOND = "no `--keep` made this second file: move it away, and write `head -c 17 /dev/zero` in its place"
+NO_SECOND = "no `--keep` made this second file: move it away, and resume with `--from-one-file`"
 STRANGER = "it keeps no reduction: `--resume F` takes a file F that `--keep F` made"
 
 
 def ackermann(number):
     return f"{ACKERMANN} <r|Ack(r,{numeral(number)})={numeral(3)}>"
+
+
+def fibonacci(number):
+    return f"{FIBONACCI} <r|F(r)={numeral(number)}>"
 
 
 def figures(ran):
@@ -79,13 +83,13 @@ def torn(draw, old, new):
 def second_missing(path):
     """What is told of a file of a reduction whose second file isn't there."""
     what = f"{path}: its second file, {path}.2, is missing: bring it back"
-    return f"{what}; if it is lost, `head -c 17 /dev/zero > {path}.2` makes it anew"
+    return f"{what}; if it is lost, `--resume {path} --from-one-file` goes on without it"
 
 
 def first_missing(path):
     """What is told of a file that isn't there, where the second file of its reduction is."""
     what = f"{path}: its second file, {path}.2, holds a reduction: bring the first one back"
-    return f"{what}; if it is lost, `head -c 17 /dev/zero > {path}` makes it anew"
+    return f"{what}; if it is lost, `--resume {path} --from-one-file` goes on without it"
 
 
 def turned(state):
@@ -117,7 +121,7 @@ class Keep(Stops):
             path.unlink(missing_ok=True)
 
     def whole(self, text):
-        """The answer and the figures of a reduction that isn't kept, by one thread as of one that is."""
+        """The answer and the figures of a reduction by one thread that isn't kept."""
         ran = run("reduce", "--workers", 1, *FIGURES, given=text)
         self.equals(ran.command, "status", 0, ran.status)
         return ran.out, figures(ran)
@@ -126,7 +130,7 @@ class Keep(Stops):
         """Fails unless a run that is kept has come to the same end."""
         self.equals(ran.command, f"status; it said {ran.err}", 0, ran.status)
         self.agrees(ran.command, "standard output", whole[0], ran.out)
-        for name in ("end", "stuck", "interactions", "threads", "by_rule"):
+        for name in ("end", "stuck", "circle", "interactions", "by_rule"):
             self.equals(ran.command, name, whole[1][name], figures(ran)[name])
 
     def kept(self):
@@ -149,6 +153,22 @@ class Keep(Stops):
         text.write_text(ackermann(3))
         self.agree(run("reduce", "--keep", self.file, *FIGURES, text), whole)
 
+    def test_any_number_of_threads_keeps_a_reduction(self):
+        """Without a number there are as many as of one that isn't kept, and with a bound of interactions one."""
+        whole = self.whole(fibonacci(25))
+        half = whole[1]["interactions"] // 2
+        threads = figures(run("reduce", *FIGURES, given=ackermann(1)))["threads"]
+        for first, second in ((1, 4), (4, 1), (2, 64), (7, 2), (None, None)):
+            self.clear()
+            words = [[] if it is None else ["--workers", it] for it in (first, second)]
+            began = run("reduce", "--keep", self.file, "--steps", half, *words[0], *FIGURES, given=fibonacci(25))
+            self.equals(began.command, f"how it ended; it said {began.err}", (5, half), (began.status, figures(began)["interactions"]))
+            ended = run("reduce", "--resume", self.file, *words[1], *FIGURES)
+            self.agree(ended, whole)
+            for ran, many in ((began, first or 1), (ended, second or threads)):
+                told = figures(ran)
+                self.equals(ran.command, "threads, and whether they shared the net", (many, many > 1), (told["threads"], told["shared"] > 0))
+
     def test_the_time_of_what_has_ended_stays(self):
         """It is that in which it went on, and not the time in which it is read again."""
         words = ["--quiet-answer", *FIGURES]
@@ -167,8 +187,8 @@ class Keep(Stops):
 
     def test_the_stuck_pair_is_the_first_that_is_printed(self):
         """By one thread and by several, kept and not, and where nothing is printed. After stops the net, the interactions by rule
-        and this are those of an unbroken run; the order of the equations need not be."""
-        drawn, seen, others = self.draws(), 0, 0
+        and this are those of an unbroken run, and by one thread the line is."""
+        drawn, seen = self.draws(), 0
         while seen < 40:
             symbols = draws.symbols(drawn, drawn.randint(3, 6), drawn.choice([1, 2, 3]))
             rules = draws.rules(drawn, symbols, drawn.randint(2, 6))
@@ -179,13 +199,15 @@ class Keep(Stops):
             seen += 1
             told = figures(whole)
             self.clear()
-            words, given = ["--keep", self.file], text
+            threads = drawn.choice((1, 1, 2, 5))
+            words, given = ["--workers", threads, "--keep", self.file], text
             for most in sorted(drawn.randrange(told["interactions"] + 1) for _ in range(drawn.randint(1, 3))):
                 run("reduce", *words, "--steps", most, "--quiet-answer", given=given)
-                words, given = ["--resume", self.file], b""
-            kept = run("reduce", *words, *FIGURES, given=given)
-            others += kept.out != whole.out
-            for ran in (whole, run("reduce", "--workers", 3, *FIGURES, given=text), kept, run("reduce", "--resume", self.file, *FIGURES)):
+                words, given = ["--workers", threads, "--resume", self.file], b""
+            kept = [run("reduce", *words, *FIGURES, given=given), run("reduce", "--resume", self.file, *FIGURES)]
+            for ran in kept if threads == 1 else []:
+                self.equals(ran.command, "the line", whole.out, ran.out)
+            for ran in (whole, run("reduce", "--workers", 3, *FIGURES, given=text), *kept):
                 self.equals(ran.command, "the pair that is told", first_pair(ran.out), figures(ran)["stuck"])
                 self.equals(ran.command, "the net", nets.form_of(rules, whole.out), nets.form_of(rules, ran.out))
                 for name in ("end", "interactions", "by_rule"):
@@ -193,7 +215,6 @@ class Keep(Stops):
             for words in (["--workers", 1], ["--resume", self.file]):
                 printed, quiet = (run("reduce", *words, *more, *FIGURES, given=text) for more in ([], ["--quiet-answer"]))
                 self.equals(quiet.command, "the pair that is told without an answer", first_pair(printed.out), figures(quiet)["stuck"])
-        self.equals("answers", f"whether some are printed otherwise after stops: {others} of {seen}", True, others > 0)
 
     def inspected(self):
         """What `inspect` tells, as it is found in the files; each file stays as it is."""
@@ -237,6 +258,14 @@ class Keep(Stops):
         ran = run("reduce", "--resume", self.second)
         self.equals(ran.command, "what is told", f"{self.second}: {SECOND}\n", ran.after.decode())
         # It is as is told.
+        self.second.unlink()
+        self.renewed(self.second, self.file)
+
+    def renewed(self, lost, other, *words, why="holds the last keep or the one before, from which the reduction goes on", asked=True):
+        """Goes on from one file, which is told, and so is that the other one is made anew. The end is that of one not stopped."""
+        flag = ["--from-one-file"] if asked else []
+        ran = run("reduce", "--resume", self.file, *flag, "--steps", 9, "--quiet-answer", *words)
+        self.equals(ran.command, "what is told", f"{lost}: made anew: {other} {why}".encode(), ran.err.splitlines()[0] if ran.err else b"")
         self.agree(run("reduce", "--resume", self.file, *FIGURES), self.whole(ackermann(2)))
 
     def test_a_second_file_is_told_of_where_the_first_is_lost(self):
@@ -255,8 +284,7 @@ class Keep(Stops):
             self.equals(self.file, "what the files hold", [None, content], self.contents())
         # It is as is told.
         self.second.write_bytes(second)
-        self.file.write_bytes(bytes(HEAD))
-        self.agree(run("reduce", "--resume", self.file, *FIGURES), self.whole(ackermann(2)))
+        self.renewed(self.file, self.second)
 
     def test_a_file_that_is_lost_is_made_anew(self):
         run("reduce", "--keep", self.file, "--steps", 9, given=ackermann(2))
@@ -271,24 +299,49 @@ class Keep(Stops):
             self.equals(self.file, "interactions that are kept", True, self.kept() in kept)
             self.agree(run("reduce", "--resume", self.file, *FIGURES), self.whole(ackermann(2)))
 
-    def test_a_damaged_file_is_made_anew_as_its_refusal_tells(self):
+    def test_a_reduction_goes_on_from_one_file_where_that_is_asked_for(self):
+        """The other is damaged, and its keep is lost."""
         run("reduce", "--keep", self.file, "--steps", 9, given=ackermann(2))
         run("reduce", "--resume", self.file, "--steps", 30)
-        whole = self.contents()
+        whole, paths = self.contents(), (self.file, self.second)
         newest = max((0, 1), key=lambda it: seen(it, whole[it])[1])
         cut = [whole[newest][:it] for it in (0, HEAD - 1, 30, len(whole[newest]) - 1)]
         # Of one that is damaged in its words, `inspect` tells that it is held.
-        for content in (*cut, laid(whole[newest], HEAD + 56 + 8 * 6, b"\xff" * 8)):
-            self.put(content if it == newest else whole[it] for it in (0, 1))
-            if content not in cut:
-                lines = [seen(it, content)[0] for it, content in enumerate(self.contents(), 1)]
-                self.runs("inspect", "--disk", self.file, out=[*lines, f"held: file {newest + 1}"])
+        for content in (*cut, laid(whole[newest], HEAD, b"nothing!"), laid(whole[newest], HEAD + 56 + 8 * 6, b"\xff" * 8)):
+            put = [content if it == newest else whole[it] for it in (0, 1)]
+            self.put(put)
             ran = run("reduce", "--resume", self.file)
             self.equals(ran.command, "the end", (3, b"icserve: damaged\n"), (ran.status, ran.err))
-            self.equals(ran.command, "whether its cure is told", True, b"`head -c 17 /dev/zero`" in ran.after)
-            (self.file, self.second)[newest].write_bytes(bytes(HEAD))
-            self.equals(self.file, "interactions that are kept", 9, self.kept())
-            self.agree(run("reduce", "--resume", self.file, *FIGURES), self.whole(ackermann(2)))
+            self.equals(ran.command, "whether its cure is told", True, b"`--resume %b --from-one-file`" % str(self.file).encode() in ran.after)
+            self.equals(self.file, "what the files hold", put, self.contents())
+            self.renewed(paths[newest], paths[1 - newest])
+        # One that is older, or whole, is no reason to make the other anew; nor is there one where no state stands in the other.
+        for place, content in ((1 - newest, laid(whole[1 - newest], HEAD, b"nothing!")), (newest, whole[newest])):
+            self.put(content if it == place else whole[it] for it in (0, 1))
+            ran = run("reduce", "--resume", self.file, "--from-one-file", "--steps", 0, "--quiet-answer", *FIGURES)
+            self.equals(ran.command, "interactions", 30, json.loads(ran.err.splitlines()[0])["interactions"])
+        for contents in ([whole[0], b"mine" + bytes(40)], [whole[newest], whole[newest]], [whole[0][:60], None], [None, whole[1][:60]], [laid(whole[0], HEAD + 56 + 8 * 6, b"\xff" * 8), bytes(HEAD)]):
+            self.clear()
+            self.put(contents)
+            ran = run("reduce", "--resume", self.file, "--from-one-file")
+            self.equals(ran.command, f"the end; it said {ran.err}", (3, b""), (ran.status, ran.out))
+            self.equals(self.file, "what the files hold", contents, self.contents())
+
+    def test_a_reduction_that_has_ended_needs_one_file(self):
+        """Nothing is kept after its end, so no keep is lost."""
+        run("reduce", "--keep", self.file, "--steps", 9, "--quiet-answer", given=ackermann(2))
+        run("reduce", "--resume", self.file, "--quiet-answer")
+        whole, paths = self.contents(), (self.file, self.second)
+        newest = max((0, 1), key=lambda it: seen(it, whole[it])[1])
+        for content in (None, b"", b"\0" * 9):
+            self.clear()
+            self.put(content if it != newest else whole[it] for it in (0, 1))
+            self.renewed(paths[1 - newest], paths[newest], why="holds the end of the reduction, so nothing is lost", asked=False)
+        # The second one by itself is no first one.
+        self.clear()
+        self.put(whole)
+        ran = run("reduce", "--resume", self.second)
+        self.equals(ran.command, "the end", (3, [self.second.name, self.file.name]), (ran.status, sorted((it.name for it in self.room.glob("net.keep*")), reverse=True)))
 
     def test_another_file_beside_a_whole_one_is_not_written_over(self):
         run("reduce", "--keep", self.file, "--steps", 9, given=ackermann(2))
@@ -385,14 +438,15 @@ class Keep(Stops):
         return plain, kept, self.costs("--resume", self.file, "--steps", 10**6)
 
     def test_a_million_nodes_are_kept_at_a_bounded_cost(self):
-        """Of a net that grows, and of one that is read. Who is slowed down by others may try again."""
+        """Of a net that grows, and of one that is read: what has begun holds and reads nothing of its own files. Who is slowed down by
+        others may try again."""
         rules = "{A(B(x),S(l))><B(A(x,l))}"
         grows, is_read = (f"{rules} <r|{it}>".encode() for it in ("A(x,r)=B(x)", f"r={'S(' * 10**6}Z{')' * 10**6}"))
-        for text, most in ((grows, 3.0), (is_read, 1.5)):
+        for text, held, most in ((grows, 1.5, 3.0), (is_read, 1.08, 1.5)):
             for _ in range(3):
                 plain, kept, resumed = self.costs_of_all(text)
-                is_small = kept[0] <= 1.5 * plain[0] and resumed[0] <= most * plain[0]
-                is_quick = max(kept[1], resumed[1]) <= 3 * plain[1]
+                is_small = kept[0] <= held * plain[0] and resumed[0] <= most * plain[0]
+                is_quick = max(kept[1], resumed[1]) <= 2 * plain[1]
                 if not is_small or is_quick:
                     break
             told = f"MB and seconds, kept and resumed: {plain}, {kept}, {resumed}"
@@ -422,7 +476,10 @@ class Keep(Stops):
         self.agree(run("reduce", "--resume", self.file, *FIGURES), whole)
 
     def test_what_a_file_holds_is_not_written_over(self):
-        for first, second in ((b"mine", None), (b"\0", None), (None, b"mine"), (bytes(HEAD), bytes(HEAD))):
+        run("reduce", "--keep", self.file, "--steps", 9, given=ackermann(2))
+        closed = b"\0" + self.contents()[0][1:]
+        kept = (closed, b"\1" + bytes(16)), (laid(closed, 1, b"\1"), None), (laid(closed, 8, b"\2"), bytes(HEAD)), (closed[:24], None)
+        for first, second in ((b"mine", None), (b"\0\1", None), (bytes(25), None), (None, b"mine"), (bytes(HEAD), bytes(HEAD + 1)), *kept):
             self.clear()
             for path, content in ((self.file, first), (self.second, second)):
                 if content is not None:
@@ -437,6 +494,19 @@ class Keep(Stops):
         told = f"{self.file}: it or its second file, {self.second}, holds something; `reduce --resume` goes on if a reduction is kept there\n"
         self.equals(ran.command, "what is told", told, ran.after.decode())
         self.equals(ran.command, "what the files hold", before, self.contents())
+
+    def test_a_stop_within_the_first_keep_leaves_files_that_the_same_command_takes(self):
+        whole = self.whole(ackermann(2))
+        run("reduce", "--keep", self.file, "--steps", 0, "--quiet-answer", given=ackermann(2))
+        first, second = self.contents()
+        self.equals(self.second, "what the second file holds", bytes(HEAD), second)
+        empty = bytes(HEAD)
+        begun = [empty + first[HEAD:], empty + first[HEAD : HEAD + 8], empty[:9] + first[9:], b"\0" + first[1:], empty, b"\0", b"", None]
+        for contents in [(it, empty) for it in begun] + [(None, it) for it in (b"\0\0", b"", None)]:
+            self.clear()
+            self.put(contents)
+            self.agree(run("reduce", "--keep", self.file, *FIGURES, given=ackermann(2)), whole)
+            self.agree(run("reduce", "--resume", self.file, *FIGURES), whole)
 
     def test_a_refused_text_makes_no_file(self):
         ran = run("reduce", "--keep", self.file, given="<r|r=")
@@ -464,7 +534,7 @@ class Keep(Stops):
             self.put(contents)
             ran = run("reduce", "--resume", self.file)
             self.equals(ran.command, f"status of {contents}; it said {ran.err}", 3, ran.status)
-            self.equals(ran.command, "whether it is told to begin again", True, ran.after.endswith(b"begin again\n"))
+            self.equals(ran.command, "whether it is told to begin again", True, ran.after.endswith(b"give the same `--keep` again\n"))
             self.equals(ran.command, "whether the second file is named", True, f"its second file, {self.second}" in ran.after.decode())
             self.equals(ran.command, "what the files hold", list(contents), self.contents())
         # What is kept is read whole: a file that was cut, or whose state is another.
@@ -792,10 +862,7 @@ class Keep(Stops):
                 if ran.status == 5 or self.kept() is not None:
                     self.agree(run("reduce", "--resume", self.file, *FIGURES), whole)
                     continue
-                # Nothing was kept: it is begun anew, where the files are empty or were taken away.
-                if any(self.contents()):
-                    self.refuses("reduce", "--keep", self.file, given=text, line="not empty", status=3)
-                    self.clear()
+                # Nothing was kept: the same command begins anew.
                 self.agree(run("reduce", "--keep", self.file, *FIGURES, given=text), whole)
 
     def test_each_growth_is_refused_in_turn(self):
@@ -846,29 +913,40 @@ class Keep(Stops):
         return ran_with(said_of(command, text), process.returncode, out, err)
 
     def test_100_kills_at_drawn_moments_of_a_long_reduction(self):
-        """Each comes as a run goes on, and the next run resumes what is kept then. Where the reduction ends, it has the answer and
-        the counts of one that isn't stopped, and is begun anew."""
-        draw, text = self.draws(), ackermann(int(os.environ.get("KEEP_SIZE") or 11))
+        self.is_killed(ackermann(int(os.environ.get("KEEP_SIZE") or 11)), 100, 1)
+
+    def test_200_kills_at_drawn_moments_of_a_long_reduction_by_four_threads(self):
+        self.is_killed(fibonacci(int(os.environ.get("SHARED_SIZE") or 31)), 200, 4)
+
+    def is_killed(self, text, most, threads):
+        """Kills a reduction so often. Each comes as a run goes on, and the next run resumes what is kept then. Where the reduction
+        ends, it has the answer and the counts of one that isn't stopped, and is begun anew."""
+        draw = self.draws()
         began = time.monotonic()
         whole = self.whole(text)
         took = time.monotonic() - began
-        words, given, held, kills, went_on, ends = ["--keep", self.file], text.encode(), None, 0, 0, 0
-        while kills < 100:
-            ran = self.stopped(words, given, draw.random() * took * 0.1, draw.choice((signal.SIGKILL, signal.SIGKILL, signal.SIGTERM)))
+        several = ["--workers", threads]
+        words, given, held, kills, went_on, ends = [*several, "--keep", self.file], text.encode(), None, 0, 0, 0
+        # About half of the runs keep something before they are stopped, however busy the machine is.
+        longest = took * 0.1
+        while kills < most:
+            ran = self.stopped(words, given, draw.random() * longest, draw.choice((signal.SIGKILL, signal.SIGKILL, signal.SIGTERM)))
             if ran.status >= 0:
                 self.agree(ran, whole)
                 self.clear()
-                words, given, held, ends = ["--keep", self.file], text.encode(), None, ends + 1
+                words, given, held, ends = [*several, "--keep", self.file], text.encode(), None, ends + 1
                 continue
             kills += 1
             now = self.kept()
             # Nothing is kept yet: it is begun anew.
             if held is None and now is None:
+                longest *= 1.1
                 self.clear()
                 continue
             earlier = held or 0
+            longest *= 0.9 if (now or 0) > earlier else 1.1
             is_between = now is not None and earlier <= now <= whole[1]["interactions"]
             self.equals(ran.command, f"interactions after {kills} kills, {earlier} before: {now}", True, is_between)
-            words, given, held, went_on = ["--resume", self.file], b"", now, went_on + (now > earlier)
-        self.agree(run("reduce", *map(str, words), "--seconds", 1, *FIGURES, given=given), whole)
+            words, given, held, went_on = [*several, "--resume", self.file], b"", now, went_on + (now > earlier)
+        self.agree(run("reduce", *map(str, words), "--seconds", 1, *FIGURES, given=given, seconds=900), whole)
         self.equals(self.file, f"whether it went on between kills, in {took:.1f} s: {went_on} times, {ends} ends", True, went_on >= 20)

@@ -11,6 +11,8 @@ from program import IN_MEMORY, Trial, run
 # The limits of what is served.
 NODES, TERMS, BYTES, SYMBOLS, RULES, RULE_NODES = 8_192, 64, 262_144, 64, 256, 2_048
 
+SERVED = ["--limits", "served"]
+
 # Those of symbols for `reduce`, and of the numbers of names.
 WIDE_SYMBOLS, MAX_NAME = 65_536, 2**32 - 1
 
@@ -121,8 +123,8 @@ class Large(Trial):
         for nodes in (NODES, NODES + 1):
             config = f"<{numeral(nodes - 1)}|>"
             self.reduces(f"{{A><B}} {config}", config, 0)
-            served = [[word] for word in words_for("configuration", "system", "either") if word != "reduce"]
-            for words in (["reduce", "--limits", "served"], ["reduce", "--rounds", 1], *served):
+            served = [[word] for word in words_for("configuration", "system", "either") if word not in ("reduce", "trace")]
+            for words in (["reduce", *SERVED], ["reduce", "--rounds", 1, *SERVED], ["trace", *SERVED], *served):
                 text = f"{{A><B}} {config}" if TEXT_WORDS[words[0]] == "system" else config
                 if nodes == NODES:
                     self.equals(words, "status", 0, run(*words, given=text).status)
@@ -153,7 +155,7 @@ class Large(Trial):
         for count in (SYMBOLS, SYMBOLS + 1):
             config = f"<{'('.join(f'S{it}' for it in range(count))}{')' * (count - 1)}|>"
             self.reduces(f"{{}} {config}", config, 0)
-            for words in (["reduce", "--limits", "served"], ["reduce", "--rounds", 1], ["once"], ["trace"]):
+            for words in (["reduce", *SERVED], ["reduce", "--rounds", 1, *SERVED], ["once"], ["trace", *SERVED]):
                 text = f"{{}} {config}"
                 if count == SYMBOLS:
                     self.equals(words, "status", 0, run(*words, given=text).status)
@@ -165,7 +167,7 @@ class Large(Trial):
         text, answer = wheel(60, 5, steps)
         self.reduces(text, answer, len(steps))
         self.refused(["reduce", "--limits", "served"], text, TOO_MANY_RULES, column=text.index("A51><N2") + 1)
-        for words in (["reduce", "--rounds", 1], ["once"], ["trace"]):
+        for words in (["reduce", "--rounds", 1, *SERVED], ["once"], ["trace", *SERVED]):
             self.refused(words, text, TOO_MANY_RULES)
         self.serves(self.disk(), [f"submit large {text}"], ["bad limit"])
 
@@ -244,4 +246,4 @@ class Large(Trial):
             self.reduces(text, "<|>", 0)
             if count > BYTES:
                 self.refused(["reduce", "--limits", "served"], text, TOO_MANY_BYTES)
-                self.refused(["trace"], text, TOO_MANY_BYTES)
+                self.refused(["trace", *SERVED], text, TOO_MANY_BYTES)

@@ -61,7 +61,7 @@ class Launcher(Trial):
         super().setUp()
         self.calls = self.room / "calls"
         self.calls.write_text("")
-        for name in ("icserve", "film", "listen", "send", "Makefile"):
+        for name in ("icserve", "film", "listen", "send", "page", "Makefile"):
             shutil.copy(TOP / name, self.room / name)
         shutil.copytree(TOP / "python/icserve", self.room / "python/icserve", ignore=shutil.ignore_patterns("__pycache__"))
         (self.room / "crates.txt").write_text("low:\nicserve: low\n")
@@ -247,7 +247,7 @@ class Launcher(Trial):
         self.ended(self.launch("settle"), out=["proved"])
         self.says("is proved", self.make("install", "PREFIX=prefix"))
         self.ended(run(program=self.room / "prefix/bin/icserve"), out=["proved"])
-        for it in ("film", "listen", "send"):
+        for it in ("film", "listen", "send", "page"):
             self.holds(self.room / f"prefix/bin/icserve-{it}", (TOP / it).read_bytes())
         self.equals("make install", "the Python package", 1, len(list(self.room.glob("prefix/lib/python3*/*-packages/icserve/py.typed"))))
         self.make("uninstall", "PREFIX=prefix")
@@ -379,7 +379,8 @@ class FirstCommands(Trial):
             self.skipTest("the kit isn't here")
         copy = self.room / "copy"
         shutil.copytree(TOP, copy, ignore=shutil.ignore_patterns("out", ".git", ".rattle", "__pycache__"))
-        (self.room / "section.md").write_text((TOP / "README.md").read_text().split("## Six commands")[1].split("\n## ")[0])
+        sections = dict(it.split("\n", 1) for it in (TOP / "README.md").read_text().split("\n## ")[1:])
+        (self.room / "section.md").write_text(sections["One reduction"] + sections["To look at a net"])
         told = ISNT_PROVED
         for command, wanted in [it for block in blocks_of(self.room / "section.md") for it in typed_in(block)]:
             if ("dot " in command or "./film " in command) and not shutil.which("dot"):

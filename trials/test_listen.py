@@ -16,6 +16,7 @@ import time
 from pathlib import Path
 
 import model_disk
+from hosts import Hosts
 from known import ADD, LOOP, TWO
 from program import IN_MEMORY, PATIENCE, PROGRAM, TOP, Trial, run, shown
 from test_drawn_serving import OTHERS, session
@@ -479,6 +480,16 @@ class Sends(Listens):
         path = self.room / "none"
         self.ended(self.send("list", path=path), b"", f"icserve-send: {path}: No such file or directory\n", status=4)
 
+    def test_a_server_that_is_begun_just_after_it_is_found(self):
+        """So the lines of a page may be pasted at once."""
+        path = self.room / "socket"
+        command = [sys.executable, TOP / "send", "--socket", path, "list"]
+        with subprocess.Popen(command, stdout=subprocess.PIPE, stderr=subprocess.PIPE) as started:
+            time.sleep(0.5)
+            with self.listening():
+                out, err = started.communicate(timeout=PATIENCE)
+        self.equals(command, "how it ends", (0, b"jobs\n", b""), (started.returncode, out, err))
+
     def shows(self, terminal, wanted):
         """Reads what stands on a terminal up to these bytes."""
         came = b""
@@ -504,6 +515,31 @@ class Sends(Listens):
                 os.write(main, b"\x04")
                 self.equals(command, "the status", 0, started.wait(PATIENCE / 4))
             self.equals("the history", "its lines", ["list", "help", "fetch no"], (self.room / "icserve/history").read_text().split("\n")[:3])
+
+
+class Ssh(Hosts, Listens):
+    seconds = 10
+
+    def test_a_client_of_another_host_speaks_through_a_socket_of_ssh(self):
+        """The host is a server of ssh on a port of its own. Its clients and one here have one table, and ssh's end harms neither."""
+        found = self.wants("sshd", "ssh", "ssh-keygen")
+        self.ssh_host(found, "there")
+        with self.listening() as one:
+            far = self.room / "far"
+            handed = [found["ssh"], "-F", self.room / "ssh_config", "-N", "-o", "ExitOnForwardFailure=yes", "-L", f"{far}:{one.path}", "there"]
+            tunnel = self.daemon(*handed)
+            end = time.monotonic() + PATIENCE
+            while not far.exists() and tunnel.poll() is None and time.monotonic() < end:
+                time.sleep(0.02)
+            sent = run(TOP / "send", "--socket", far, f"submit two {TWO.text}", "run 1", "list", program=sys.executable)
+            self.equals(sent.command, "how it ends", (0, b"accepted\nran 1\njobs two:running:1\n", b""), sent[1:4])
+            with Client(far) as there, one.client() as here:
+                self.answers(there, "pause two", "ok")
+                self.answers(here, "list", "jobs two:paused:1")
+                tunnel.kill()
+                self.equals("a client of ssh that was killed", "what it is answered", None, there.answer())
+                self.answers(here, "resume two", "ok")
+            self.ends_well(one)
 
 
 class Kills(Listens):

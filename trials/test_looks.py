@@ -62,78 +62,64 @@ def end_of(answer):
     line = told[1] + b"\n"
     if told["rest"]:
         return line, b"icserve: not done\n", 5
-    return line, b"icserve: stuck " + told["pair"] + b"\n" if told["pair"] else b"", 0
+    return line, (b"icserve: stuck " + told["pair"] + b"\n" if told["pair"] else b"") + nets.circle_line(told[1]), 0
 
 
 class Rows(Trial):
     rooms = IN_MEMORY
     seconds = 5
 
-    def test_each_row_that_is_reduced_has_its_line_and_its_status(self):
+    def test_each_row_that_is_reduced_has_its_net_and_its_status(self):
+        """A round that is refused on words isn't in place, where a net has no such limit."""
         seen = set()
         for name, _, count, text, answer in asked(["reduce"]):
             with self.subTest(name=name, rounds=count):
                 out, err, status = end_of(answer)
-                self.runs("reduce", "--rounds", count, given=text, out=out, err=err, status=status)
+                if REFUSED.fullmatch(answer) or not int(count):
+                    continue
+                ran = run("reduce", "--rounds", count, "--limits", "served", given=text)
+                # Which pair is told as stuck may differ.
+                self.equals(ran.command, "status and what is told", (status, err.split(b" ")[:2]), (ran.status, ran.err.split(b" ")[:2]))
+                if out:
+                    self.equals(ran.command, "the net", True, is_one_net(text, out.decode(), ran.out))
                 seen.add(err.split(b" ")[1] if err else status)
-        self.equals("reduce", "ends that no row has", set(), {0, b"stuck", b"not", b"bad", b"overgrown\n"} - seen)
+        self.equals("reduce", "ends that no row has", set(), {0, b"stuck", b"not", b"bad"} - seen)
 
     def test_each_row_that_is_traced_has_its_table_its_picture_or_its_objects(self):
         tried = 0
         for name, kind, count, text, answer in asked(list(SHOWN)):
             shown = SHOWN[kind]
             with self.subTest(name=name, kind=kind, rounds=count):
-                ran = run("trace", "--rounds", count, "--format", shown, given=text)
-                told = REFUSED.fullmatch(answer)
-                if told:
-                    self.ended(ran, out=told[1], err=b"icserve: " + told[2] + b"\n", status=1)
-                    self.equals(ran.command, "which round is refused", told[3] + b"\n", ran.after)
-                elif answer.startswith((b"round\t", b"<svg", b"{")):
+                if REFUSED.fullmatch(answer):
+                    continue
+                ran = run("trace", "--rounds", count, "--format", shown, "--limits", "served", given=text)
+                if answer.startswith((b"round\t", b"<svg", b"{")):
                     self.ended(ran, out=answer)
                 else:
                     self.ended(ran, err=b"icserve: " + answer + b"\n", status=1)
                 tried += 1
         self.equals("trace", f"more than ten rows: {tried}", True, tried > 10)
 
-    def test_the_configuration_before_a_refused_round_is_printed_where_that_is_asked_for(self):
-        refused = 0
-        for name, _, count, text, answer in asked(["partial"]):
-            with self.subTest(name=name, rounds=count):
-                ran = run("reduce", "--rounds", count, "--partial", given=text)
-                told = REFUSED.fullmatch(answer)
-                if told is None:
-                    self.ended(ran, *end_of(answer))
-                    self.runs("reduce", "--partial", f"--rounds={count}", "--workers", 1, given=text, out=ran.out, err=ran.err, status=ran.status)
-                    continue
-                refused += 1
-                self.ended(ran, out=told[1], err=b"icserve: " + told[2] + b"\n", status=1)
-                self.equals(ran.command, "which round is refused", told[3] + b"\n", ran.after)
-                plain = run("reduce", "--rounds", count, given=text)
-                self.ended(plain, err=ran.err, status=1)
-                self.equals(plain.command, "which round is refused", ran.after, plain.after)
-                made = int(told[3].split(b",")[0].split()[1]) - 1
-                self.runs("reduce", "--rounds", made, given=text, out=ran.out, err=["icserve: not done"], status=5)
-        self.equals("reduce --partial", "how many rounds are refused", 2, refused)
-
-    def test_what_is_shown_before_a_refused_round_is_the_trace_of_the_rounds_before_it(self):
-        """A table, a picture, objects, and the line of `--partial`, of a system that grows without end."""
-        unending = (TOP / "examples/unending.ic").read_text()
-        for text, made in ((DOUBLES, 10), (unending, 11)):
-            for words in (["trace"], ["trace", "--format", "svg"], ["trace", "--format", "json"], ["reduce", "--partial"]):
-                word, *options = words
-                ran = run(word, "--rounds", 10**6, *options, given=text)
-                before = run(word, "--rounds", made, *options, given=text)
-                ends = (ran.status, ran.err, ran.out == before.out, ran.after.startswith(f"round {made + 1} would pass 8192 nodes ".encode()))
-                self.equals(ran.command, "how it ends", (1, b"icserve: overgrown\n", True, True), ends)
-                self.equals(before.command, "status", 5 if word == "reduce" else 0, before.status)
+    def test_what_is_shown_before_a_bound_is_the_trace_of_the_rounds_before_it(self):
+        """A table, a picture and objects of a system that grows without end."""
+        for options in ([], ["--format", "svg"], ["--format", "json"]):
+            ran = run("trace", "--nodes", 10_000, *options, given=DOUBLES)
+            made = int(re.search(rb"rounds (\d+)", ran.after)[1])
+            before = run("trace", "--rounds", made, *options, given=DOUBLES)
+            ends = (ran.status, ran.err, ran.out == before.out, made > 9)
+            self.equals(ran.command, "how it ends", (1, b"icserve: overgrown\n", True, True), ends)
+            self.equals(before.command, "status", 0, before.status)
+        ran = run("reduce", "--rounds", MOST, "--nodes", 10_000, "--partial", given=DOUBLES)
+        self.equals(ran.command, "status, and whether a net is printed", (1, True), (ran.status, ran.out.startswith(b"<|")))
 
     def test_a_million_rounds_are_made_and_a_table_is_told(self):
         self.runs("reduce", "--rounds", 10**6, given=TWO, out=["<S(S(Z))|>"])
-        self.refuses("reduce", "--rounds", 10**6, given=DOUBLES, line="overgrown", status=1)
         table = [HEAD, "1\t1\t7\t1\t2", "2\t1\t3\t0\t0"]
         self.runs("trace", given=TWO, out=table)
         self.runs("trace", "--format", "tsv", given=TWO, out=table)
-        self.refuses("reduce", "--rounds", 10**6, given=LOOP.text, out=[LOOP.config(10**6)], line="not done", status=5)
+        self.refuses("reduce", "--rounds", 10**6, given=LOOP.text, out=["<|A(a)=B(a)>"], line="not done", status=5)
+        ran = run("trace", given=LOOP.text)
+        self.equals(ran.command, "status, and how many lines", (0, 10**6 + 1), (ran.status, ran.out.count(b"\n")))
 
     def test_as_many_rounds_as_there_may_be_are_taken(self):
         self.runs("reduce", "--rounds", MOST, given=TWO, out=["<S(S(Z))|>"])
@@ -143,24 +129,6 @@ class Rows(Trial):
             ran = run(word, "--rounds", MOST + 1, given=TWO)
             self.equals(ran.command, "status and standard output", (2, b""), (ran.status, ran.out))
             self.equals(ran.command, f"the range is told: {ran.err}", True, b"0..=4611686018427387904" in ran.err)
-
-    def test_workers_change_nothing_of_what_is_reduced(self):
-        """Neither what few equations reduce to, which one thread does anyway, nor what 1,000 do."""
-        for _, _, count, text, answer in asked(["reduce"]):
-            if len(text) < 2000:
-                out, err, status = end_of(answer)
-                self.runs("reduce", "--workers", 64, "--rounds", count, given=text, out=out, err=err, status=status)
-        pairs = ",".join(f"A(a{i})=B(a{i})" for i in range(1, 1201))
-        swaps = f"{{A(B(x))><B(A(x))}} <|{pairs}>"
-        alone = run("reduce", "--workers", 1, "--rounds", 5, given=swaps)
-        told = (alone.status, alone.err, alone.out.count(b"="))
-        self.equals(alone.command, "how it ends, and how many equations there are", (5, b"icserve: not done\n", 1200), told)
-        for workers in (2, 3, 64):
-            self.runs("reduce", "--workers", workers, "--rounds", 5, given=swaps, out=alone.out, err=alone.err, status=5)
-            self.runs("reduce", "--rounds", 9, "--workers", workers, given=WIDE.text, out=[WIDE.config(1)], err=["icserve: stuck Q><R"])
-        for wrong in (0, 65, -1):
-            ran = run("reduce", "--rounds", 9, "--workers", wrong, given=TWO)
-            self.equals(ran.command, "how it ends", (2, b"", b"error:"), (ran.status, ran.out, ran.err[:6]))
 
     def test_rounds_that_are_cut_go_on_where_they_ended(self):
         """A configuration that isn't done is printed all the same; with the rules before it, it is reduced further."""
@@ -192,12 +160,18 @@ class Examples(Trial):
             given = (TOP / "examples" / name).read_bytes()
             with self.subTest(example=name):
                 if refused:
-                    self.refuses("reduce", "--rounds", 10**6, given=given, line=answer, status=1)
-                    self.refuses("reduce", "--rounds", int(rounds) + 1, given=given, line=answer, status=1)
+                    self.refuses("once", given=self.after(given, int(rounds)), line=answer, status=1)
                 else:
                     self.runs("reduce", given=given, out=[answer.replace("\\|", "|")])
                     by_rounds = run("reduce", "--rounds", rounds, given=given)
                     self.equals(by_rounds.command, "status, and the net of the answer", (0, True), (by_rounds.status, is_one_net(given, answer, by_rounds.out)))
+
+    def after(self, given, rounds):
+        """The text of a system after so many rounds."""
+        rules, line = given[: given.rindex(b"}") + 1], given[given.rindex(b"}") + 1 :]
+        for _ in range(rounds):
+            line = run("once", given=rules + line).out
+        return rules + line
 
     def test_the_table_tells_the_sums_of_each_trace(self):
         for name, (refused, _, rounds, *sums) in self.table().items():
@@ -215,22 +189,19 @@ class Endings(Trial):
 
     def test_refused_texts_are_told_and_nothing_is_printed(self):
         for text, fault in SYSTEMS:
-            for words in (["reduce", "--limits", "served"], ["reduce", "--rounds", 9], ["trace"], ["trace", "--format", "svg"], ["trace", "--format", "json"]):
-                if "--limits" in words and fault == "overgrown":
-                    continue
-                with self.subTest(text=text[:60], words=words):
-                    is_shown = words[0] == "trace" and fault == "overgrown"
-                    out = run(*words, "--rounds", 0, given=text).out if is_shown else b""
-                    self.refuses(*words, given=text, line=fault, out=out, status=1)
+            for words in (["reduce"], ["reduce", "--rounds", 9], ["trace"], ["trace", "--format", "svg"], ["trace", "--format", "json"]):
+                if fault != "overgrown":
+                    with self.subTest(text=text[:60], words=words):
+                        self.refuses(*words, "--limits", "served", given=text, line=fault, status=1)
 
     def test_a_text_of_262145_bytes_is_too_long_and_one_of_262144_is_not(self):
-        for words, out in ((["reduce", "--limits", "served"], "<|>\n"), (["reduce", "--rounds", 9], "<|>\n"), (["trace"], f"{HEAD}\n")):
-            self.runs(*words, given=" " * (262_144 - 6) + "{} <|>", out=out)
-            self.refuses(*words, given=" " * (262_145 - 6) + "{} <|>", line="bad limit", status=1)
+        for words, out in ((["reduce"], "<|>\n"), (["reduce", "--rounds", 9], "<|>\n"), (["trace"], f"{HEAD}\n")):
+            self.runs(*words, "--limits", "served", given=" " * (262_144 - 6) + "{} <|>", out=out)
+            self.refuses(*words, "--limits", "served", given=" " * (262_145 - 6) + "{} <|>", line="bad limit", status=1)
 
     def test_no_more_is_read_than_a_text_may_have(self):
         """A source without end is refused at its 262,145th byte."""
-        for words in (["reduce", "--limits", "served"], ["trace"], ["draw"]):
+        for words in (["reduce", "--limits", "served"], ["trace", "--limits", "served"], ["draw"]):
             with open("/dev/zero", "rb") as zeros:
                 ran = run(*words, stdin=zeros)
             self.ended(ran, err=["icserve: bad limit"], status=1)
@@ -242,8 +213,8 @@ class Endings(Trial):
 
     def test_a_stuck_pair_is_told_on_standard_error_alone(self):
         text = f"{ADD} <r|Ad(r,Z)=Z,Up=Down>"
-        out = ["<r|Ad(r,Z)=Z,Up=Down>"]
-        self.runs("reduce", "--rounds", 9, given=text, out=out, err=["icserve: stuck Ad><Z"])
+        out = ["<a|Up=Down,Ad(a,Z)=Z>"]
+        self.runs("reduce", "--rounds", 9, given=text, out=out, err=["icserve: stuck Up><Down"])
         self.runs("-c", 'exec "$0" reduce --rounds 9 2>&-', PROGRAM, program="/bin/sh", given=text, out=out)
         in_place = run("reduce", given=text)
         self.equals(in_place.command, "whether a stuck pair is told", True, in_place.err in (b"icserve: stuck Ad><Z\n", b"icserve: stuck Up><Down\n"))
@@ -262,10 +233,10 @@ class Objects(Trial):
     def test_the_objects_of_each_example_have_the_names_and_the_numbers_of_its_table(self):
         for path in sorted(TOP.glob("examples/*.ic")):
             text = path.read_bytes()
-            head, *lines = run("trace", given=text).out.decode().splitlines() or [HEAD]
+            head, *lines = run("trace", "--nodes", 8192, given=text).out.decode().splitlines() or [HEAD]
             with self.subTest(example=path.name):
                 wanted = [list(zip(head.split("\t"), map(int, line.split("\t")))) for line in lines]
-                told = run("trace", "--format", "json", given=text).out.decode()
+                told = run("trace", "--nodes", 8192, "--format", "json", given=text).out.decode()
                 came = [json.loads(line, object_pairs_hook=list) for line in told.splitlines()]
                 self.equals(path.name, "the objects", wanted, came)
                 self.equals(path.name, "how many lines", len(wanted), told.count("\n"))
@@ -288,7 +259,7 @@ class Pictures(Trial):
         tried = 0
         for path in sorted(TOP.glob("examples/*.ic")):
             text = path.read_bytes()
-            table = run("trace", given=text)
+            table = run("trace", "--nodes", 8192, given=text)
             if table.status:
                 continue
             told = [[int(it) for it in line.split("\t")] for line in table.out.decode().splitlines()[1:]]
@@ -359,7 +330,7 @@ class Faults(Trial):
         (["reduce"], TWO, b"<S(S(Z))|>\n", b"", 0),
         (["reduce", "--steps", "1"], TWO, b"<S(a)|Z=Add(a,S(Z))>\n", b"icserve: not done\n", 5),
         (["reduce", "--rounds", "9"], TWO, b"<S(S(Z))|>\n", b"", 0),
-        (["reduce", "--rounds", "1"], TWO, b"<S(s)|Z=Add(s,S(Z))>\n", b"icserve: not done\n", 5),
+        (["reduce", "--rounds", "1"], TWO, b"<S(a)|Z=Add(a,S(Z))>\n", b"icserve: not done\n", 5),
         (["reduce"], "{A><B} <|A=C>", b"<|A=C>\n", b"icserve: stuck A><C\n", 0),
         (["reduce", "--rounds", "9"], "{A><B} <|A=C>", b"<|A=C>\n", b"icserve: stuck A><C\n", 0),
         (["reduce"], "{A(B,x)><A(x,C)} <|>", b"", b"icserve: bad lopsided 1\n", 1),
@@ -380,7 +351,8 @@ class Faults(Trial):
                 if ran.out and (ran.out, ran.status) == (out, 0) and not ran.err and b"stuck" in err:
                     return
                 self.is_fault(ran, call, (4, "memory"))
-                if not (status == 5 and ran.out == out):
+                is_begun = words[0] == "trace" and out.startswith(ran.out)
+                if not is_begun and not (status == 5 and ran.out == out):
                     self.agrees(ran.command, f"standard output, where it went wrong: {call}", b"", ran.out)
 
             self.in_turn("growth", ("once", "on"), attempt)
@@ -388,9 +360,8 @@ class Faults(Trial):
 
     def test_each_read_and_write_fails_in_turn(self):
         shown = [(it, TWO, run(*it, given=TWO).out, b"", 0) for it in (["trace", "--format", "svg"], ["trace", "--format", "json"])]
-        for words in (["trace"], ["reduce", "--partial"]):
-            before = run(words[0], "--rounds", 10, given=DOUBLES).out
-            shown.append(([*words, "--rounds", "11"], DOUBLES, before, b"icserve: overgrown\n", 1))
+        cut = ["trace", "--nodes", "5000"]
+        shown.append((cut, DOUBLES, run(*cut, given=DOUBLES).out, b"icserve: overgrown\n", 1))
         for words, text, out, err, status in [*self.RUNS, *shown]:
             writes = ("once", "on", "nothing", "half", "interrupt", "short")
             for what, ways in (("read", ("once", "on", "interrupt", "short")), ("write", writes)):

@@ -185,10 +185,12 @@ class Nets(NetTrial):
                 self.runs("reduce", given=text, out=["<|>"])
 
     def by_rounds(self, text):
-        """The most nodes that the program tells before and after a round, and the end, or that it is too large."""
-        ran = run("reduce", "--rounds", 1_000, given=text)
-        if ran.err == b"icserve: overgrown\n":
+        """The most nodes that the program tells before and after a round, and the end, or that a job of it is too large."""
+        (self.room / "jobs.disk").unlink(missing_ok=True)
+        disk = self.disk()
+        if b"halted" in run("serve", "--disk", disk, given=[b"submit one " + text, "run 1000", "list"]).out:
             return "too large"
+        ran = run("reduce", "--rounds", 1_000, given=text)
         table = run("trace", "--rounds", 1_000, given=text).out.splitlines()[1:]
         return f"{max(int(it.split(bytes([9]))[2]) for it in table)} {ran.out.decode().rstrip()}"
 
@@ -242,8 +244,9 @@ class Rounds(NetTrial):
                 rules, config, text = self.begun(kind, text)
                 refusal = self.refusal_of(rules, config, text)
                 ran = run("reduce", "--rounds", 0, given=text)
-                self.equals(ran.command, "whether it is quiet", model.is_quiet(rules, config), ran.status == 0)
-                told = f"{'outgrows' if refusal else 'fits'}, {'quiet' if ran.status == 0 else 'goes on'}"
+                is_quiet = model.is_quiet(rules, config)
+                self.equals(ran.command, "whether no pair fires once it is settled", model.is_quiet(rules, model.settled(config)), ran.status == 0)
+                told = f"{'outgrows' if refusal else 'fits'}, {'quiet' if is_quiet else 'goes on'}"
                 self.equals(f"{kind} {text[:200]}", "whether it fits and is quiet", answer, told)
 
     def begun(self, kind, text):

@@ -42,7 +42,7 @@ class Places(Trial):
         """Fails unless a text that this word refuses has the place of the model told, and another nothing."""
         found = "system" if text.lstrip(b" \t\r\n").startswith(b"{") else "configuration"
         kind = found if TEXT_WORDS[word] == "either" else TEXT_WORDS[word]
-        ran = run(word, *(["--limits", "served"] if word == "reduce" else []), given=text)
+        ran = run(word, *(["--limits", "served"] if word in ("reduce", "trace") else []), given=text)
         self.agrees(ran.command, "what stands after the first line", places.told(text, kind), ran.after)
         if ran.after:
             first = b" ".join(ran.err.split(b" ")[:3]).strip()

@@ -13,7 +13,7 @@ from program import IN_MEMORY, PROGRAM, Trial, as_lines, run, said_of
 
 # A line as the program writes it: to the begin of the terminal's line, the text, and what erases the rest.
 LINE = re.compile(rb"\revents (\d+)(?:, rounds a second (\d+), jobs running (\d+))?\x1b\[K")
-OF_A_NET = re.compile(rb"\rinteractions (\d+), a second (\d+), places (\d+)\x1b\[K")
+OF_A_NET = re.compile(rb"\rinteractions (\d+), a second (\d+), nodes (\d+)\x1b\[K")
 WIPED = b"\r\x1b[K"
 
 # A thousand pairs that never end, so that many rounds take a while on any machine.
@@ -143,8 +143,8 @@ class Progress(Trial):
             self.equals(self.command, "standard output", (b"<|", b">\n", 1), (out[:2], out[-2:], out.count(b"\n")))
             lines = self.lines_of(shown.removesuffix(told), took, OF_A_NET)
             self.equals(self.command, f"a line came: {lines}", True, len(lines) > 0)
-            is_told = all(made % 4_096 == 0 and pace > 0 and places < 10 for made, pace, places in lines)
-            self.equals(self.command, f"pieces of a run, and few places: {lines}", True, is_told)
+            is_told = all(made % 4_096 == 0 and pace > 0 and nodes < 10 for made, pace, nodes in lines)
+            self.equals(self.command, f"pieces of a run, and few nodes: {lines}", True, is_told)
 
     def test_a_net_that_is_kept_shows_the_interactions_of_all_pieces(self):
         kept = self.room / "net.keep"

@@ -19,6 +19,16 @@ from test_listen import Listening
 PACKAGE = TOP / "python/icserve"
 
 
+class Axes:
+    """What is called of it, in order."""
+
+    def __init__(self):
+        self.calls = []
+
+    def __getattr__(self, name):
+        return lambda *given: self.calls.append(f"{name}({', '.join(map(repr, given))})")
+
+
 class Package(Trial):
     rooms = IN_MEMORY
 
@@ -54,13 +64,18 @@ class Calls(Package):
             self.equals(path, "interactions by rule", came.interactions, sum(came.by_rule.values()))
             rows = run("trace", "--rounds", 5, given=text).out.decode().split("\n")[1:-1]
             self.equals(path, "the rows", rows, ["\t".join(map(str, it)) for it in self.icserve.trace(text, 5)])
+        self.equals("Add(r,x)=x", "the circle", (None, "Add"), (lambda it: (it.stuck, it.circle))(self.icserve.reduce("{} <r|Add(r,x)=x>")))
         self.equals("Ad(r,Z)=Z", "what is stuck", "Ad><Z", self.icserve.reduce("{Add(x,x)><Z} <r|Ad(r,Z)=Z>").stuck)
-        self.equals("a round", "the answer", ("<S(s)|Z=Add(s,S(Z))>", False), (lambda it: (it.text, it.is_done))(self.icserve.reduce(TWO.text, rounds=1)))
+        self.equals("a round", "the answer", ("<S(a)|Z=Add(a,S(Z))>", False), (lambda it: (it.text, it.is_done))(self.icserve.reduce(TWO.text, rounds=1)))
 
     def test_what_is_refused_is_raised_by_its_name(self):
         fault = self.raised(self.icserve.Refusal, self.icserve.reduce, "{A><B")
         self.equals("{A><B", "the refusal", ("bad syntax", 1), (fault.name, fault.status))
         self.equals("{A><B", "whether its place is told", True, fault.told.startswith("line 1, column 6"))
+        grows = "{A(Q,B(P,x))><B(R,A(S,x))} <|A(S,n)=B(P,n)>"
+        fault = self.raised(self.icserve.Refusal, self.icserve.reduce, grows, nodes=1000)
+        self.equals(grows, "the refusal", ("overgrown", 1), (fault.name, fault.status))
+        self.equals(grows, "whether figures are told, and no object", True, fault.told.startswith("interactions ") and "{" not in fault.told)
         fault = self.raised(self.icserve.Refusal, self.icserve.reduce, TWO.text, workers=65)
         self.equals("65 workers", "the status", 2, fault.status)
         fault = self.raised(self.icserve.Refusal, self.icserve.resume, self.room / "none")
@@ -70,8 +85,21 @@ class Calls(Package):
         text = f"{ADD} <r|Add(r,{'S(' * 999}Z{')' * 999})={'S(' * 999}Z{')' * 999}>"
         cut = self.icserve.reduce(text, steps=100, keep=self.room / "kept")
         self.equals("100 steps", "interactions, and whether it is done", (100, False), (cut.interactions, cut.is_done))
-        whole = self.icserve.resume(self.room / "kept")
-        self.equals("resume", "interactions, and whether it is done", (1000, True), (whole.interactions, whole.is_done))
+        whole = self.icserve.resume(self.room / "kept", workers=3)
+        self.equals("resume", "interactions, threads, and whether it is done", (1000, 3, True), (whole.interactions, whole.threads, whole.is_done))
+
+    def test_plots_are_drawn_on_axes(self):
+        """By stand-ins for those of matplotlib, which may not be there."""
+        axes = Axes()
+        rows = [self.icserve.Row(1, 2, 5, 1, 0), self.icserve.Row(2, 3, 0, 0, 0)]
+        answers = [self.icserve.reduce(TWO.text), self.icserve.reduce("{} <|>")]
+        self.equals("plot", "what it returns", axes, self.icserve.plot(rows, axes))
+        self.equals("plot_times", "what it returns", axes, self.icserve.plot_times(answers, axes))
+        wanted = ["bar([1, 2], [2, 3])", "set_xlabel('round')", "set_ylabel('pairs that fire')"]
+        times = [it.milliseconds for it in answers]
+        wanted += [f"loglog([2, 0], {times}, 'o')", "set_xlabel('interactions')", "set_ylabel('milliseconds')"]
+        self.equals("plots", "what is drawn", wanted, axes.calls)
+        self.equals("work_and_span", "the sums", (5, 2), self.icserve.work_and_span(rows))
 
     def test_it_is_python_of_3_8_with_types(self):
         for path in PACKAGE.glob("*.py"):

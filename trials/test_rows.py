@@ -7,7 +7,7 @@ those of `draw` in test_draw.py.
   that is printed; with all others the text is refused as none. `system_byte`: those with which a text means a system of nothing.
 - `checked TEXT`: what `check` tells of a file F with this text, and whether it has a fault. `sizes TEXT`: bytes and lines of a graph.
 - `in_a_small_stack TEXT`: the line of a round where the program has no more stack than a thread has.
-- `alike N TEXT`: how a system ends after at most N rounds, by 1, 2, 7 and 64 workers.
+- `alike N TEXT`: how a system ends after at most N rounds.
 - `rounds N TEXT`: `next` and the text after each of N rounds, and whether the last is quiet. `ends N TEXT`: after how many, at
   most N, it is quiet, and its text. `lasts N TEXT`: how many are made, at most N, and why there is no next one.
 - `words WORDS ~ PART`: whether words after the program's name are refused or answered by a help, and whether this part stands there.
@@ -145,14 +145,12 @@ class Texts(Trial):
                 ran = run("draw", given=expanded(text))
                 self.agrees(ran.command, "bytes and lines", answer, b"%d %d" % (len(ran.out), ran.out.count(b"\n")))
 
-    def test_each_row_that_workers_reduce_alike(self):
+    def test_each_row_of_reductions_by_rounds(self):
         for name, _, text, answer in rows("texts", "alike"):
             count, _, text = text.partition(" ")
             with self.subTest(name=name):
-                told = [run("reduce", "--rounds", count, "--workers", it, given=expanded(text)) for it in (1, 2, 7, 64)]
-                ends = {(it.status, it.out, it.err) for it in told}
-                self.equals(told[0].command, "how many ends there are", 1, len(ends))
-                self.agrees(told[0].command, "how it ends", answer, self.end_of(told[0], int(count), expanded(text)))
+                ran = run("reduce", "--rounds", count, given=expanded(text))
+                self.agrees(ran.command, "how it ends", answer, self.end_of(ran, int(count), expanded(text)))
 
     def end_of(self, ran, most, text):
         """How a reduction ended, in the words of a row: the number of rounds is the least that is done."""
@@ -186,18 +184,15 @@ class Texts(Trial):
         return b" ".join([*told, {b"done": b"quiet"}.get(jobs[-1][0], b"on")])
 
     def end_after(self, most, text):
-        """The least number of rounds after which a reduction is done, and its text."""
-        for made in range(most + 1):
-            ran = run("reduce", "--rounds", made, given=text)
-            if ran.status != 5:
-                return b"%d quiet " % made + ran.out.rstrip()
-        return b"not done"
+        """After how many rounds a job is done, and its text."""
+        state, rounds, shown, *_ = self.ran(text, f"run {most}")
+        return b"%b quiet %b" % (rounds, shown) if state == b"done" else b"not done"
 
     def last_of(self, most, text):
-        """After how many rounds a job halts, and what a reduction tells of it."""
-        state, rounds, *_ = self.ran(text, *["run 1000"] * (most // 1000), f"run {most % 1000}")
-        refusal = run("reduce", "--rounds", most, given=text).err.removeprefix(b"icserve:").rstrip()
-        return rounds + refusal if state == b"halted" else rounds
+        """After how many rounds a job halts, and what is told of one round more."""
+        state, rounds, after, *_ = self.ran(text, *["run 1000"] * (most // 1000), f"run {most % 1000}")
+        rules = text[: text.index(b"}") + 1]
+        return rounds + run("once", given=rules + after).err.removeprefix(b"icserve:").rstrip() if state == b"halted" else rounds
 
 
 class Words(Trial):

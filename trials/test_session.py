@@ -24,7 +24,7 @@ TOLD = [
     "line 1, column 1: bad syntax: a command is looked for here: submit, copy, pause, resume, cancel, fetch, list or run; a file with one text begins with { or <",
     "line 3, column 11: bad syntax: the line should end before this",
     "line 5, column 5: bad limit: a run makes at most 1000 rounds",
-    "line 7, column 19: bad arity: a symbol has one arity: A has 0 here and 2 where it stands first",
+    "line 7, column 19: bad arity: a symbol has one arity: A has 0 here and 2 where it stands first, 8 columns before",
     "line 8, column 6: bad syntax: a number is looked for here",
 ]
 ANSWERS = ["bad syntax", "accepted", "bad syntax", "bad limit", "jobs two:running:0", "bad arity", "bad syntax"]
@@ -41,12 +41,16 @@ def told_of(text):
             yield f"line {number}, column {spot(line, told_at(line, at))[1]}: {fault}: {sentence}"
 
 
+DONE = {"stuck": ", but stuck: there is no rule for", "circle at": " with a circle, which no step takes apart, at"}
+
+
 def still_of(held):
     """What a session is told at its end of jobs that go no further without a result, by the lines that `inspect` has of them."""
     for line in held:
         name, state = re.match(r"(\S+): (\w+),", line).groups()
-        if ", stuck " in line:
-            yield f"job {name} is done, but stuck: there is no rule for {line.partition(', stuck ')[2]}"
+        if state == "done":
+            for told, symbols in re.findall(r", (stuck|circle at) (\S+?)(?=,|$)", line):
+                yield f"job {name} is done{DONE[told]} {symbols}"
         elif state == "halted":
             why = line.partition("active pairs ")[2].partition(", ")[2]
             yield f"job {name} is halted: {why}" if why else f"job {name} is halted"
@@ -72,9 +76,12 @@ class Session(Trial):
         lines = ["submit sum {Add(x,x)><Z} <r|Ad(r,Z)=Z>", f"submit two {TWO.text}", over, "run 10"]
         told = ["job sum is done, but stuck: there is no rule for Ad><Z"]
         told += ["job over is halted: next round overgrown"]
+        told += ["job both is done, but stuck: there is no rule for C><D"]
+        told += [f"job {name} is done with a circle, which no step takes apart, at {at}" for name, at in (("both", "Add"), ("round", "x=x"))]
+        lines[-1:] = ["submit both {} <r|C=D,x=Add(r,x)>", "submit round {} <|x=y,x=y>", "run 10"]
         ran = run("serve", "--disk", self.jobs, "--explain", given=lines)
         self.equals(ran.command, "what is told", (0, as_lines(told)), (ran.status, ran.err))
-        self.serves(self.jobs, "list", ["jobs sum:done:0 two:done:2 over:halted:0"])
+        self.serves(self.jobs, "list", ["jobs sum:done:0 two:done:2 over:halted:0 both:done:0 round:done:1"])
 
     def test_a_last_line_without_a_line_feed_is_told_before_jobs_without_a_result(self):
         lines = as_lines(["submit sum {Add(x,x)><Z} <r|Ad(r,Z)=Z>", "run 10"]) + b"lists"

@@ -1,5 +1,5 @@
-"""Workers stand from a serving's first round of 4,000 equations on, for all such rounds, and are joined at its end. Those of
-an attendance's runner stand from its beginning to its end."""
+"""Workers stand from a serving's first lap on, for all laps, and are joined at its end: a lap is the next rounds of several
+jobs with 2,000 equations or more together. Those of an attendance's runner stand from its beginning to its end."""
 
 import signal
 import time
@@ -11,9 +11,10 @@ from program import Server, heeds_signals
 from shim import noted, shimmed
 from stops import Stops
 
-# Three rounds of 4,000 equations, of two jobs, with smaller ones between.
+# Two jobs of 4,000 equations. The first lap is made where they run both and more than one round is asked for.
 LINES = [f"submit two {TWO.text}", "run 5", f"submit a {WAVES.text}", "run 1", f"submit loop {LOOP.text}"]
 LINES += [f"submit b {WIDE.text}", "run 3", "list", "run 20"]
+FIRST_LAP = LINES.index("run 3")
 SMALL = [f"submit two {TWO.text}", "run 5", f"submit loop {LOOP.text}", "run 100", "list"]
 
 
@@ -33,12 +34,12 @@ class Standing(Stops):
         for workers in (2, 3, 7, 64):
             with Server(self.disk(f"{workers}.disk"), "--workers", workers) as server:
                 threads = self.asked(server, LINES)
-                self.equals(server.said(), "threads before a round of 4,000 equations", [[server.process.pid]] * 3, threads[:3])
-                self.equals(server.said(), "threads after it", workers + 1, len(threads[3]))
-                self.equals(server.said(), "threads from then on", [threads[3]] * (len(LINES) - 3), threads[3:])
+                self.equals(server.said(), "threads before a lap", [[server.process.pid]] * FIRST_LAP, threads[:FIRST_LAP])
+                self.equals(server.said(), "threads after it", workers, len(threads[FIRST_LAP]))
+                self.equals(server.said(), "threads from then on", [threads[FIRST_LAP]] * (len(LINES) - FIRST_LAP), threads[FIRST_LAP:])
                 self.ends(server)
 
-    def test_a_serving_without_such_rounds_starts_no_thread(self):
+    def test_a_serving_without_laps_starts_no_thread(self):
         for lines, words in ((SMALL, ("--workers", 64)), (LINES, ("--workers", 1))):
             with Server(self.disk(f"{len(lines)}.disk"), *words) as server:
                 threads = self.asked(server, lines)
@@ -62,18 +63,18 @@ class Standing(Stops):
         return kinds.count("B"), kinds.count("J")
 
     def test_each_thread_is_begun_once_and_joined_at_the_end(self):
-        """Also where the serving ends at a fault: of the writer, of the disk, of memory, or of a thread itself."""
+        """Also where the serving ends at a fault: of the writer, of the disk, or of memory. Without a thread it goes on."""
         well, write, device = (0, b""), (4, b"icserve: write\n"), (4, b"icserve: device\n")
         pool, memory = (4, b"icserve: pool\n"), (4, b"icserve: memory\n")
         for workers in (2, 5, 64):
-            all_of_them = (workers, workers)
+            all_of_them = (workers - 1, workers - 1)
             came = self.begun_and_joined(f"thread {10**9} once", workers, well)
             self.equals(f"{workers} workers", "threads begun and joined", all_of_them, came)
-            for answer in range(4, len(LINES) + 1):
+            for answer in range(FIRST_LAP + 1, len(LINES) + 1):
                 came = self.begun_and_joined(f"write {answer} on", workers, write)
                 self.equals(f"{workers} workers, the write {answer}", "threads begun and joined", all_of_them, came)
-            for thread in range(1, workers + 1, 1 + workers // 5):
-                came = self.begun_and_joined(f"thread {thread} on", workers, pool)
+            for thread in range(1, workers, 1 + workers // 5):
+                came = self.begun_and_joined(f"thread {thread} on", workers, well)
                 self.equals(f"{workers} workers, the thread {thread}", "threads begun and joined", (thread - 1,) * 2, came)
         opening = [(3, b"icserve: device\n"), (3, b"icserve: memory\n")]
         for what, calls, ends in (("disk", 60, (well, device)), ("growth", 4000, (well, pool, memory))):
@@ -87,8 +88,8 @@ class Standing(Stops):
             every, workers = draw.choice((1, 3, 100)), draw.choice((2, 3, 16))
             disk, lines = self.disk(f"{number}.disk"), [*LINES, f"submit c {WAVES.text}", "run 30", "run 30"]
             with Server(disk, "--every", every, "--workers", workers, preexec_fn=heeds_signals) as server:
-                self.equals(server.said(), "threads", workers + 1, len(self.asked(server, lines[:4])[3]))
-                server.send(lines[4:])
+                self.equals(server.said(), "threads", workers, len(self.asked(server, lines[: FIRST_LAP + 1])[-1]))
+                server.send(lines[FIRST_LAP + 1 :])
                 time.sleep(draw.random() * 0.03)
                 sign = draw.choice((signal.SIGKILL, signal.SIGTERM))
                 ran = server.stop(sign)

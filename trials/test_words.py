@@ -5,20 +5,22 @@ import itertools
 import re
 
 from known import TEXT_WORDS
-from program import IN_MEMORY, Trial, run
+from program import IN_MEMORY, PROGRAM, TOP, Trial, run
 
 # A line of a help: an option with its value, and what it says.
 OPTION = re.compile(r"  (?:    |-\w, )(--[\w-]+)(?: <(\w+)>)? +(.*)")
+# The greatest numbers of a cell of the page's table of limits.
+NUMBER = re.compile(r"(below )?(?:2\^(\d+)|(\d[\d,]*))")
 RANGE = re.compile(r"from (\d+) to (\d+)")
 
 # What of `reduce` may not stand beside what.
 APART = {
-    "--rounds": ["--steps", "--nodes", "--limits", "--stats", "--format", "--quiet-answer", "--keep", "--resume", "--seconds"],
-    "--keep": ["--resume", "--limits", "--workers"],
-    "--resume": ["--limits", "--workers", "FILE"],
+    "--rounds": ["--steps", "--keep", "--resume", "--seconds", "--workers"],
+    "--keep": ["--resume", "--limits"],
+    "--resume": ["--limits", "FILE"],
 }
 GIVEN = {"--limits": "wide", "--format": "json", "--keep": "F", "--resume": "G", "FILE": "text"}
-FLAGS = ("--partial", "--quiet-answer", "--stats")
+FLAGS = ("--partial", "--with-rules", "--quiet-answer", "--stats", "--from-one-file")
 
 
 def help_of(*words):
@@ -109,9 +111,11 @@ class Words(Trial):
                 with self.subTest(words=words):
                     if apart:
                         self.refused(["reduce", *words], "cannot be used with")
-                    elif "--resume" not in words and "--keep" not in words and "--seconds" not in words:
+                    elif not {"--resume", "--keep", "--seconds", "--from-one-file"} & set(words):
                         self.taken(["reduce", *words])
         self.refused(["reduce", "--seconds", "3"], "--keep <F> or --resume <F>")
+        for words in ([], ["--keep", "F"]):
+            self.refused(["reduce", "--from-one-file", *words], "--resume <F>")
 
     def test_a_refused_argument_is_shown_without_its_control_bytes(self):
         for words in (["\x1b[31mred\x07"], ["reduce", "--steps", "\x1b[31m5"], ["trace", "--format", "\x9b2J\u202e"], ["help", "\x1b[2J"], ["serve", "--disk", "F", "\x1b]0;x\x07"]):
@@ -122,8 +126,25 @@ class Words(Trial):
                 self.equals(ran.command, "bytes that are no printable ASCII", b"", others)
                 self.equals(ran.command, "whether others stand for them", True, b"?" in ran.err)
 
+    def test_help_limits_tells_the_limits_of_the_page(self):
+        def numbers(cell):
+            return [(2 ** int(it[2]) if it[2] else int(it[3].replace(",", ""))) - bool(it[1]) for it in NUMBER.finditer(cell)]
+
+        rows = [line.split(" | ") for line in (TOP / "docs/text-format.md").read_text().split("\n### Limits\n")[1].split("\n\n")[1].split("\n")[2:]]
+        at_page = sorted(it for row in rows for it in zip(numbers(row[1]), numbers(row[2])))
+        told = run("help", "limits").out.decode().split("\n\n")[1].split("\n")[1:]
+        in_help = sorted(tuple(int(it) for it in re.findall(r" (\d+)", line)) for line in told)
+        self.equals("icserve help limits", "limits, served and wide", at_page, in_help)
+
+    def test_the_version_says_whether_the_program_is_proved(self):
+        told = run("--version").out.decode()
+        self.assertRegex(told, r"\Aicserve \d+\.\d+\.\d+ \((not )?proved\)\n\Z")
+        if PROGRAM.endswith("crates/icserve/out/icserve"):
+            self.assertIn(" (proved)", told)
+        self.equals("icserve -V", "what is shown", told, run("-V").out.decode())
+
     def test_lines_of_helps_have_at_most_100_columns(self):
-        for words in ([], ["help", "language"], ["help", "keep"], *([it] for it in words_of_help())):
+        for words in ([], ["help", "language"], ["help", "limits"], ["help", "keep"], *([it] for it in words_of_help())):
             text = run(*words).out.decode() if words[:1] == ["help"] and len(words) > 1 else help_of(*words)
             long = [line for line in text.split("\n") if len(line) > 100]
             self.equals(f"icserve {' '.join(words)} --help", "lines of more than 100 columns", [], long)

@@ -7,7 +7,7 @@
 
 The program is the one that the variable ICSERVE names, else `icserve` on the path, else that of the clone which this file is in."""
 
-from .nets import Answer, Film, Finding, Picture, Row, check, draw, expand, film, plot, reduce, resume, settle, trace, version
+from .nets import Answer, Film, Finding, Picture, Row, check, draw, expand, film, plot, plot_times, reduce, resume, settle, trace, version, work_and_span
 from .program import Refusal
 from .server import BadLine, Job, JobRefused, Server, ServerEnded
 
@@ -28,9 +28,11 @@ __all__ = [
     "expand",
     "film",
     "plot",
+    "plot_times",
     "reduce",
     "resume",
     "settle",
     "trace",
     "version",
+    "work_and_span",
 ]

@@ -8,7 +8,7 @@ import shutil
 import subprocess
 from dataclasses import dataclass
 from pathlib import Path
-from typing import Any, Dict, List, NamedTuple, Optional, Sequence, Union
+from typing import Any, Dict, List, NamedTuple, Optional, Sequence, Tuple, Union
 
 from .program import Ran, found, run
 
@@ -17,17 +17,18 @@ PathText = Union[str, "os.PathLike[str]"]
 
 @dataclass(frozen=True)
 class Answer:
-    """What a text was reduced to. `is_done` says whether no step is possible any more. The figures are wanting (None) where rounds
-    were made. `by_rule` has the interactions of each rule, by its two symbols."""
+    """What a text was reduced to. `is_done` says whether no step is possible any more. Then `stuck` is the first pair without a rule, and
+    `circle` the symbol at which the first circle is closed. `by_rule` has the interactions of each rule, by its two symbols."""
 
     text: str
     is_done: bool
     stuck: Optional[str] = None
     interactions: Optional[int] = None
     by_rule: Optional[Dict[str, int]] = None
-    places: Optional[int] = None
+    nodes: Optional[int] = None
     threads: Optional[int] = None
     milliseconds: Optional[int] = None
+    circle: Optional[str] = None
 
     def __str__(self) -> str:
         return self.text
@@ -53,17 +54,14 @@ class Finding(NamedTuple):
     name: Optional[str] = None
 
 
-def answer_of(ran: Ran, has_figures: bool) -> Answer:
+def answer_of(ran: Ran) -> Answer:
     ran.well(5)
     text = ran.out.rstrip("\n")
-    if not has_figures:
-        stuck = re.search(r"(?m)^icserve: stuck (\S+)", ran.err)
-        return Answer(text, ran.status == 0, stuck[1] if stuck else None)
     figures = json.loads(next(it for it in ran.err.split("\n") if it.startswith("{")))
     by_rule: Dict[str, int] = {}
     for it in figures["by_rule"]:
         by_rule[it["rule"]] = by_rule.get(it["rule"], 0) + it["interactions"]
-    names = ("stuck", "interactions", "places", "threads", "milliseconds")
+    names = ("stuck", "circle", "interactions", "nodes", "threads", "milliseconds")
     return Answer(text, ran.status == 0, by_rule=by_rule, **{it: figures[it] for it in names})
 
 
@@ -90,15 +88,13 @@ def reduce(
 
     With `keep` it is kept in two files now and then, and goes on by `resume` after a stop. What the program refuses raises
     `Refusal`."""
-    if rounds is not None:
-        return answer_of(run("reduce", *options(rounds=rounds, workers=workers), given=text), False)
-    words = options(workers=workers, steps=steps, nodes=nodes, keep=keep)
-    return answer_of(run("reduce", "--partial", "--stats", "--format", "json", *words, given=text), True)
+    words = options(workers=workers, steps=steps, nodes=nodes, rounds=rounds, keep=keep)
+    return answer_of(run("reduce", "--partial", "--stats", "--format", "json", *words, given=text))
 
 
-def resume(keep: PathText, steps: Optional[int] = None, nodes: Optional[int] = None) -> Answer:
+def resume(keep: PathText, steps: Optional[int] = None, nodes: Optional[int] = None, workers: Optional[int] = None) -> Answer:
     """Goes on with a reduction that is kept."""
-    return answer_of(run("reduce", "--partial", "--stats", "--format", "json", *options(resume=keep, steps=steps, nodes=nodes)), True)
+    return answer_of(run("reduce", "--partial", "--stats", "--format", "json", *options(resume=keep, steps=steps, nodes=nodes, workers=workers)))
 
 
 def settle(text: str) -> str:
@@ -175,19 +171,20 @@ class Film:
         return f'<iframe sandbox="allow-scripts" width="100%" height="700" srcdoc="{html.escape(self.html)}"></iframe>'
 
 
-def draw(text: str) -> Picture:
-    """The net of a configuration, or of a system, of which pairs that fire are thick.
+def draw(text: str, rounds: Optional[int] = None) -> Picture:
+    """The net of a configuration, or of a system, of which pairs that fire are thick: as it stands, or after so many rounds.
 
     >>> draw("<|A=B>").dot.startswith("graph")
     True
     """
-    return Picture(run("draw", given=text).well().out)
+    return Picture(run("draw", *options(rounds=rounds), given=text).well().out)
 
 
-def film(text: str, rounds: Optional[int] = None) -> Film:
-    """A page that shows a net round by round. It needs Graphviz."""
+def film(text: str, rounds: Optional[int] = None, begin: Optional[int] = None) -> Film:
+    """A page that shows a net round by round, after `begin` rounds that it doesn't show. It needs Graphviz."""
     script = found("icserve-film", "ICSERVE_FILM", "film")
-    return Film(run(*options(rounds=rounds), given=text, command=[script]).well().out)
+    words = options(rounds=rounds, **{"from": begin})
+    return Film(run(*words, given=text, command=[script]).well().out)
 
 
 def plot(rows: Sequence[Row], axes: Any = None) -> Any:
@@ -200,6 +197,27 @@ def plot(rows: Sequence[Row], axes: Any = None) -> Any:
     axes.set_xlabel("round")
     axes.set_ylabel("pairs that fire")
     return axes
+
+
+def plot_times(answers: Sequence[Answer], axes: Any = None) -> Any:
+    """A plot of the milliseconds that reductions took against their interactions, both by powers of ten, by matplotlib."""
+    if axes is None:
+        from matplotlib import pyplot
+
+        axes = pyplot.gca()
+    axes.loglog([it.interactions for it in answers], [it.milliseconds for it in answers], "o")
+    axes.set_xlabel("interactions")
+    axes.set_ylabel("milliseconds")
+    return axes
+
+
+def work_and_span(rows: Sequence[Row]) -> Tuple[int, int]:
+    """How many pairs all rounds fire, and how many rounds there are.
+
+    >>> work_and_span(trace("{A><B} <|A=B,A=B>"))
+    (2, 1)
+    """
+    return sum(it.pairs for it in rows), len(rows)
 
 
 def version() -> str:

@@ -1,10 +1,12 @@
 """Where the program is, and how it is run."""
 
+import contextlib
 import os
 import shutil
+import signal
 import subprocess
 from pathlib import Path
-from typing import List, NamedTuple, Optional, Sequence, Union
+from typing import Any, Dict, List, NamedTuple, Optional, Sequence, Union
 
 CLONE = Path(__file__).resolve().parents[2]
 
@@ -14,7 +16,8 @@ class Refusal(Exception):
     and `status` its exit status."""
 
     def __init__(self, status: int, lines: str) -> None:
-        first, _, self.told = lines.strip().partition("\n")
+        # Figures may stand before it, as an object of JSON.
+        first, _, self.told = "\n".join(it for it in lines.strip().split("\n") if not it.startswith("{")).partition("\n")
         self.name = first[len("icserve: ") :] if first.startswith("icserve: ") else first
         self.status = status
         super().__init__(f"{self.name}\n{self.told}" if self.told else self.name)
@@ -48,9 +51,25 @@ def program() -> str:
     return found("icserve", "ICSERVE", "icserve")
 
 
-def run(*words: Union[str, int, "os.PathLike[str]"], given: str = "", command: Sequence[str] = ()) -> Ran:
-    """Runs the program on a text. It reads and writes ASCII alone."""
+def run(
+    *words: Union[str, int, "os.PathLike[str]"], given: str = "", command: Sequence[str] = (), seconds: Optional[float] = None
+) -> Ran:
+    """Runs the program on a text. It reads and writes ASCII alone. What it began ends with it where its seconds are over."""
     line: List[str] = [*(command or [program()]), *(str(it) for it in words)]
-    how = {"env": {**os.environ, "ICSERVE": program()}} if command else {}
-    ran = subprocess.run(line, input=given.encode(), stdout=subprocess.PIPE, stderr=subprocess.PIPE, **how)  # type: ignore[call-overload]
-    return Ran(ran.returncode, *(it.decode(errors="replace") for it in (ran.stdout, ran.stderr)))
+    pipes: Dict[str, Any] = {"stdin": subprocess.PIPE, "stdout": subprocess.PIPE, "stderr": subprocess.PIPE}
+    env = {**os.environ, "ICSERVE": program()} if command else None
+    with subprocess.Popen(line, env=env, start_new_session=seconds is not None, **pipes) as ran:
+        try:
+            out, err = ran.communicate(given.encode(), timeout=seconds)
+        except BaseException:
+            end(ran, seconds is not None)
+            raise
+    return Ran(ran.returncode, out.decode(errors="replace"), err.decode(errors="replace"))
+
+
+def end(ran: "subprocess.Popen[bytes]", is_leader: bool) -> None:
+    """Ends a run, and what it has begun where it leads a session."""
+    if is_leader:
+        with contextlib.suppress(ProcessLookupError):
+            os.killpg(ran.pid, signal.SIGKILL)
+    ran.kill()

@@ -11,7 +11,8 @@ pub(crate) const PROGRAM: &str = "\
 To look at a system, which is read from a file or from standard input: reduce, trace, draw, once,
 settle, check and expand. To run jobs, which outlive a crash: create, serve, attend, batch, dump
 and inspect.
-icserve help language tells how texts are written, and icserve help keep how a reduction is kept.
+icserve help language tells how texts are written, icserve help limits how large they may be, and
+icserve help keep how a reduction is kept.
 The repository's docs/ say more, and its film shows a net round by round.
 
 Example, two and two:
@@ -37,7 +38,7 @@ The language:
 An agent meets what stands on the other side of an equation. So the sum of m and n is Add(r,n)=m,
 and comes out at r. In r=Add(m,n), or in another term, Add(m,n) only names a term: nothing fires.
 A text has no comments. icserve expand takes out those that begin with #, takes long names, and
-writes rules that copy and erase. icserve help reduce tells how large a text may be.
+writes rules that copy and erase. icserve help limits tells how large a text may be.
 
 Example:
   $ echo '{Add(x,x)><Z; Add(S(x),y)><S(Add(x,y))} <r|Add(r,S(Z))=S(Z)>' | icserve reduce
@@ -57,9 +58,9 @@ A stop at any moment loses what was done since the last keep. Keeps come after a
 seconds as --seconds says, and 4194304 interactions at least, so later on a slow machine. The end
 is kept too, and --resume prints the answer again. --steps counts the interactions of all runs.
 F and F.2 belong together: move or copy both, while neither is open, and give the name F.
-After a stop in the very first keep mostly nothing is kept: remove both files, and begin again.
-If one of them is lost, head -c 17 /dev/zero >LOST makes it anew. Then --resume goes on with what
-the other one holds: the last keep or the one before, if a keep into that one has ended.
+After a stop in the very first keep mostly nothing is kept: give the same --keep again.
+If one of them is lost or damaged, --resume with --from-one-file goes on with what the other one
+holds, the last keep or the one before, and makes the lost one anew. No flag is needed at the end.
 
 Example:
   $ echo '{Add(x,x)><Z; Add(S(x),y)><S(Add(x,y))} <r|Add(r,S(Z))=S(Z)>' > sum.ic
@@ -67,6 +68,44 @@ Example:
   <S(S(Z))|>
   $ icserve reduce --resume sum.keep
   <S(S(Z))|>
+";
+
+/// What `help limits` shows.
+const LIMITS: &str = "\
+Tells how large texts, nets and disks may be
+
+A text                                served          wide
+  nodes of the net                    8192            2147483648
+  terms before |                      64              2147483648
+  symbols                             64              65536
+  rules                               256             2147483648
+  nodes of the arguments of rules     2048 in all     2048 in each rule
+  bytes                               262144          8589934592
+  bytes of a symbol                   32              32
+  arguments of a symbol               15              15
+  number of a name                    4294967295      4294967295
+
+A name is a node, and an agent is a node and those of its arguments. Texts of reduce and trace are
+wide, or served with --limits served. Those of jobs and of other commands are served, and their
+nets have at most 8192 nodes after each round. What expand reads has at most 16777216 bytes.
+
+A disk of jobs
+  jobs                                32
+  bytes of a job's name               16
+  rounds of one run                   1000
+  budget of a job                     4294967295 rounds
+  lines of a serving                  1000000, of 262144 bytes each
+  commands of a script of attend      65536, in 16777216 bytes
+
+A reduction in place
+  --steps                             4611686018427387903 interactions, also where it isn't given
+  --nodes                             134217728, where it isn't given
+  agents of a symbol, names           4294967295
+  threads                             64
+
+Example:
+  $ echo '{} <r|r=S(Z)>' | icserve reduce --limits served
+  <S(Z)|>
 ";
 
 /// What stands at the end of the help of a word.
@@ -91,30 +130,28 @@ pub(crate) fn after(word: Word) -> &'static str {
 
 const REDUCE: &str = "\
 A round fires all active pairs at once, and then removes names that only join two terms.
-Beside --rounds only --workers and --partial may stand,
-and beside --keep and --resume, with which one thread reduces, no --limits or --workers.
+Beside --rounds, with which one thread reduces, no --steps, --workers, --keep or --resume may
+stand, and beside --keep and --resume no --limits.
 Without --workers and --steps as many threads reduce as the process may use processors, at most 64.
 Several may leave the same equations in another order and with other names each time.
 Compare the seconds of --stats with those of --workers 1 to see whether several were faster.
 Without --stats, --format changes nothing. The limits served are those of a job's text.
-What --nodes bounds are the net's names, agents with arguments and equations left. That is looked
-at every 4096 interactions, and less often where several threads reduce: there may be more by then.
+What --nodes bounds are the names and agents that the net has at a time; a name counts once. They
+are counted often enough that it is passed by a sixteenth and one interaction at most.
 If two agents are left that have no rule, the first pair is told: icserve: stuck A><B
 A rule that --stats doesn't name never fired; an agent inside another term meets nothing.
 
 Exit statuses:
   0  no step is possible
-  1  the text is refused, or the net or a round is too large
+  1  the text is refused, or the net is too large
   2  the arguments are refused
   3  the files of --keep or --resume can't be begun or opened
   4  memory ran out, or something can't be read, written or kept
   5  a step is still possible after the last interaction or round
   6  another process has the files of --keep or --resume
 
-icserve help language tells how a text is written. It has at most 65536 symbols, 2147483648 rules
-and nodes, and 8589934592 bytes.
-With --rounds, as in jobs and other commands, it has at most 64 symbols, 256 rules, 8192 nodes,
-262144 bytes, and 64 terms before |.
+icserve help language tells how a text is written, and icserve help limits how large it may be: with
+--limits served, as in jobs and other commands, it has the served limits.
 icserve help keep tells how a reduction is kept, and goes on after a stop.
 
 Example:
@@ -126,6 +163,8 @@ const TRACE: &str = "\
 The format tsv is a table with tabs, svg a picture, and json has objects of JSON, one a line.
 A round fires all active pairs at once, and then removes names that only join two terms.
 icserve reduce tells which pair is stuck, and whether a step is possible after the last round.
+Of more than 640 rounds a bar of the picture is the sum of several. A row is printed as its round
+is over. --stats tells what all did: work, span, and how many pairs could fire at once.
 
 Example:
   $ echo '{Add(x,x)><Z; Add(S(x),y)><S(Add(x,y))} <r|Add(r,S(Z))=S(Z)>' > sum.ic
@@ -259,6 +298,7 @@ pub fn help_of(alloc: Global, table: &[Entry], word: Option<&str>) -> Result<Str
         None => shown(alloc, table, &["--help"]),
         Some("language") => Ok(String::from_str(alloc, LANGUAGE)?),
         Some("keep") => Ok(String::from_str(alloc, KEEP)?),
+        Some("limits") => Ok(String::from_str(alloc, LIMITS)?),
         Some(word) if word_named(table, word).is_some() => shown(alloc, table, &[word, "--help"]),
         Some(word) => Err(refusal_of(
             alloc,

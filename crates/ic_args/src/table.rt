@@ -8,7 +8,7 @@ ghost use Rattle.ic_args.specs.inner.Making.{are_found};
 
 use crate::rows::{Argument, Choice, Entry, Flag, Number, Place, Text};
 
-/// The most interactions of `reduce`, which it may make where no number is said, and the most places and equations of its
+/// The most interactions of `reduce`, which it may make where no number is said, and the most names and agents of its
 /// net: 2^62 - 1.
 pub const MAX_STEPS: u64 = 4_611_686_018_427_387_903;
 
@@ -83,7 +83,7 @@ const WORDS: [Entry; 14] = [
         word: Word::Draw,
         name: "draw",
         about: "Draws the net of a configuration as a graph in Graphviz's DOT",
-        arguments: &[Argument::Place(FILE)],
+        arguments: DRAW,
     },
     Entry {
         word: Word::Once,
@@ -189,15 +189,15 @@ pub const FILE: Place = Place {
     help: "The path of the text; where there is none, or -, standard input is read",
 };
 
-/// How many threads make a round of many equations.
+/// How many threads make the rounds of several jobs.
 pub const WORKERS: Number = Number {
     name: "workers",
     shown: "N",
     least: 1,
     most: 64,
-    default: Some("2"),
+    default: None,
     apart: &[],
-    help: "Threads for a round of 4000 equations or more, from 1 to 64",
+    help: "Threads for rounds of several jobs, from 1 to 64; else processors",
 };
 
 /// After how many rounds they are kept.
@@ -209,6 +209,17 @@ pub const EVERY: Number = Number {
     default: Some("100"),
     apart: &[],
     help: "After how many rounds they are kept, from 1 to 1000000",
+};
+
+/// How many commands are kept at once.
+pub const GROUP: Number = Number {
+    name: "group",
+    shown: "N",
+    least: 1,
+    most: 64,
+    default: Some("1"),
+    apart: &[],
+    help: "How many commands that have come are kept at once, from 1 to 64",
 };
 
 /// How it is told what is found.
@@ -231,7 +242,7 @@ pub const STEPS: Number = Number {
     help: "Make at most N interactions, from 0 to 4611686018427387903 (the default)",
 };
 
-/// How many places and equations the net has at most.
+/// How many names and agents the net has at most.
 pub const NODES: Number = Number {
     name: "nodes",
     shown: "N",
@@ -239,7 +250,7 @@ pub const NODES: Number = Number {
     most: MAX_STEPS,
     default: Some("134217728"),
     apart: &[],
-    help: "The net's size at most, from 0 to 4611686018427387903",
+    help: "At most so many nodes, from 0 to 4611686018427387903",
 };
 
 /// The limits of the text.
@@ -251,10 +262,16 @@ pub const LIMITS: Choice = Choice {
     help: "The text's limits",
 };
 
-/// Whether the configuration is printed where the net, a round or memory ends the reduction.
+/// Whether the configuration is printed where the net or memory ends the reduction.
 pub const PARTIAL: Flag = Flag {
     name: "partial",
-    help: "Print the configuration too where the net, a round or memory ends it",
+    help: "Print the configuration too where the net or memory ends it",
+};
+
+/// Whether the rules are printed too.
+pub const RULES_TOO: Flag = Flag {
+    name: "with-rules",
+    help: "Print the rules before the configuration, so that both are a text again",
 };
 
 /// Whether no configuration is printed.
@@ -283,7 +300,7 @@ pub const KEEP: Text = Text {
     name: "keep",
     shown: "F",
     needed: false,
-    apart: &["resume", "limits", "workers"],
+    apart: &["resume", "limits"],
     help: "Keep what is reached in the new files F and F.2, also at the end",
 };
 
@@ -292,8 +309,14 @@ pub const RESUME: Text = Text {
     name: "resume",
     shown: "F",
     needed: false,
-    apart: &["limits", "workers", "file"],
+    apart: &["limits", "file"],
     help: "Go on with what is kept in F and F.2, and keep it there",
+};
+
+/// Whether a reduction goes on from one file, where the other is lost or damaged.
+pub const ONE_FILE: Flag = Flag {
+    name: "from-one-file",
+    help: "Go on with one file, if the other is lost or damaged, and make that anew",
 };
 
 /// How many seconds are between two keeps.
@@ -314,21 +337,11 @@ pub const ROUNDS: Number = Number {
     least: 0,
     most: MAX_ROUNDS,
     default: None,
-    apart: &[
-        "steps",
-        "nodes",
-        "limits",
-        "stats",
-        "format",
-        "quiet-answer",
-        "keep",
-        "resume",
-        "seconds",
-    ],
+    apart: &["steps", "keep", "resume", "seconds", "workers"],
     help: "Make rounds, and at most so many, from 0 to 4611686018427387904",
 };
 
-/// How many threads reduce, or make a round.
+/// How many threads reduce.
 pub const REDUCERS: Number = Number {
     name: "workers",
     shown: "N",
@@ -336,7 +349,7 @@ pub const REDUCERS: Number = Number {
     most: 64,
     default: None,
     apart: &[],
-    help: "Threads, from 1 to 64; else processors, 1 with --steps, 2 with --rounds",
+    help: "Threads, from 1 to 64; else processors, 1 with --steps",
 };
 
 const REDUCE: &[Argument] = &[
@@ -345,11 +358,13 @@ const REDUCE: &[Argument] = &[
     Argument::Number(NODES),
     Argument::Choice(LIMITS),
     Argument::Flag(PARTIAL),
+    Argument::Flag(RULES_TOO),
     Argument::Flag(QUIET),
     Argument::Flag(STATS),
     Argument::Choice(FIGURES),
     Argument::Text(KEEP),
     Argument::Text(RESUME),
+    Argument::Flag(ONE_FILE),
     Argument::Number(SECONDS),
     Argument::Number(ROUNDS),
     Argument::Number(REDUCERS),
@@ -375,11 +390,33 @@ pub const TABLE: Choice = Choice {
     help: "How it is told",
 };
 
+/// Whether it is told what all rounds did.
+pub const SUMS: Flag = Flag {
+    name: "stats",
+    help: "Tell work, span, and how many pairs could fire at once",
+};
+
 const TRACE: &[Argument] = &[
     Argument::Place(FILE),
     Argument::Number(TRACED),
+    Argument::Number(NODES),
+    Argument::Choice(LIMITS),
+    Argument::Flag(SUMS),
     Argument::Choice(TABLE),
 ];
+
+/// After how many rounds a net is drawn.
+pub const DRAWN: Number = Number {
+    name: "rounds",
+    shown: "N",
+    least: 0,
+    most: MAX_ROUNDS,
+    default: None,
+    apart: &[],
+    help: "Make rounds before, and at most N, from 0 to 4611686018427387904",
+};
+
+const DRAW: &[Argument] = &[Argument::Place(FILE), Argument::Number(DRAWN)];
 
 /// The paths of the texts of `check`.
 pub const CHECKED: Place = Place {
@@ -396,10 +433,17 @@ pub const SCRIPTS: Flag = Flag {
     help: "The files are scripts of attend, in which no run may stand",
 };
 
+/// Whether a warning counts as a fault.
+pub const STRICT: Flag = Flag {
+    name: "strict",
+    help: "Count warnings as faults: the status is 1 where one is told",
+};
+
 const CHECK: &[Argument] = &[
     Argument::Place(CHECKED),
     Argument::Choice(REPORT),
     Argument::Flag(SCRIPTS),
+    Argument::Flag(STRICT),
 ];
 
 /// Whether what a file holds is overwritten.
@@ -420,6 +464,7 @@ const SERVE: &[Argument] = &[
     Argument::Text(DISK),
     Argument::Number(WORKERS),
     Argument::Number(EVERY),
+    Argument::Number(GROUP),
     Argument::Flag(EXPLAIN),
 ];
 
@@ -520,5 +565,5 @@ pub const TOPIC: Place = Place {
     shown: "WORD",
     needed: false,
     several: false,
-    help: "The word, language or keep; where there is none, the program's help is shown",
+    help: "The word, language, limits or keep; without it the program's help is shown",
 };

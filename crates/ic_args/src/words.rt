@@ -7,7 +7,7 @@ ghost use Rattle.ic_args.specs.declared.table.Word.{Word};
 
 use crate::parser::command;
 use crate::rows::Entry;
-use crate::table::{KEEP, RESUME, SECONDS, Word};
+use crate::table::{KEEP, ONE_FILE, RESUME, SECONDS, Word};
 use crate::values::Values;
 use clap::error::{Error, ErrorKind};
 use std::alloc::{AllocError, AllocFailed, Global};
@@ -86,6 +86,9 @@ fn asked<'a>(
     if values.is_given(SECONDS.name) && !is_kept(&values) {
         return Err(refusal_of(alloc, NO_KEEP));
     }
+    if values.is_given(ONE_FILE.name) && values.text(&RESUME).is_none() {
+        return Err(refusal_of(alloc, NO_RESUME));
+    }
     match word_named(table, name) {
         Some(word) => Ok(Request::Word(word, values)),
         None => Err(refusal_of(alloc, "error: no such word\n")),
@@ -103,6 +106,16 @@ error: the following required arguments were not provided:
   --keep <F> or --resume <F>
 
 Usage: icserve reduce --keep <F> --seconds <N> [OPTIONS] [FILE]
+
+For more information, try '--help'.
+";
+
+/// What is said where `reduce` is told to go on from one file, and doesn't go on.
+const NO_RESUME: &str = "\
+error: the following required arguments were not provided:
+  --resume <F>
+
+Usage: icserve reduce --resume <F> --from-one-file [OPTIONS]
 
 For more information, try '--help'.
 ";

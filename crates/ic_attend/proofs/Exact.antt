@@ -1,11 +1,12 @@
 -- Where something differs, the comparison says so.
 use Rattle.std.proofs.Common.{◌≡◌, ℕ, ◌+◌, ◌<◌, ◌≤◌, suc, arith, List, [], ◌∷◌, ◌++◌, Option, Some, true, false, length, take, drop, refl, sym, ap, subst, ◌∙◌, inl, inr}
-use Rattle.std.specs.Prelude.{IsSomeAnd, IsTrue, slice_index_or, slice_get}
+use Rattle.std.specs.Prelude.{◌↔◌, IsSomeAnd, IsTrue, slice_index_or, slice_get}
 use Rattle.std.specs.Cmp.{unsigned_Decides}
-use Rattle.std.specs.List.{cons_option}
+use Rattle.std.specs.List.{All, cons_option}
 use Rattle.std.proofs.Math.Seq.{drop-cons, get_or-append_seam}
 use Rattle.std.proofs.lemmas.Bool.{cases_lt}
-use Rattle.std.proofs.lemmas.List.{get_or_default, length_push, length-append, length-take-le, take-append-drop}
+use Rattle.std.proofs.lemmas.List.{get_or_default, length_push, length-append, length-take-le, same_from_push, take-append-drop}
+use Rattle.std.proofs.lemmas.List.Elements.{All-from_recursion, recursion_from_All}
 use Rattle.std.proofs.lemmas.Option.{slice_get_read}
 use Rattle.ic_disk.specs.declared.disk.Disk.{Ghosts}
 use Rattle.ic_jobs.specs.declared.command.Command.{Command}
@@ -14,13 +15,13 @@ use Rattle.ic_jobs.specs.declared.event.Event.TheVariants.{Command as by_command
 use Rattle.ic_jobs.specs.declared.event.Entry.{Entry}
 use Rattle.ic_jobs.specs.declared.reply.Reply.{Reply}
 use Rattle.ic_jobs.specs.Job.{JobParts}
-use Rattle.ic_book.specs.declared.fault.BookFault.TheVariants.{Device}
 use Rattle.ic_book.specs.Entries.{is_round, AreRounds}
 use Rattle.ic_attend.specs.declared.attended.Attended.{Attended}
 use Rattle.ic_attend.specs.declared.attended.ClientRun.{ClientRun}
 use Rattle.ic_book.specs.Book.{start_of, log_of}
 use Rattle.ic_attend.specs.Parts.{answer_to, part, AreOfClients}
 use Rattle.ic_attend.specs.Clients.{MayStandAfter}
+use Rattle.ic_attend.specs.inner.Lasts.{MayBeLast}
 use Rattle.ic_attend.specs.OneHistory.{Agrees, IsOneHistory}
 use Rattle.ic_attend.proofs.PartLemmas.{answer_to-own, part-append, runs_counted}
 
@@ -90,23 +91,46 @@ same_last xs ys x y is =
     sym (get_or-append_seam xs x [] x) ∙ ap (λ (l : List Entry). slice_index_or l (length xs) x) is
     ∙ ap (λ (k : ℕ). slice_index_or (ys ++ y ∷ []) k x) n ∙ get_or-append_seam ys y [] x
 
-pub last_round : (front : List Entry) (last : Entry) → AreRounds (front ++ last ∷ []) → IsTrue (is_round last.event)
-last_round [] last rounds = rounds.0
-last_round (e ∷ front) last rounds = last_round front last rounds.1
+-- what may stand after the kept entries: rounds, and one last entry that may be it
+pub stands_after : (runs : List ClientRun) (es front : List Entry) (last : Entry) → es ≡ front ++ last ∷ []
+    → MayStandAfter runs es ↔ (All (λ e. IsTrue (is_round e.event)) front × MayBeLast runs last)
+stands_after runs es front last is = (there, λ may. back may.0 may.1)
+  where
+    parts : (xs : List Entry) → AreRounds (xs ++ last ∷ []) → AreRounds xs × IsTrue (is_round last.event)
+    parts [] rounds = (tt, rounds.0)
+    parts (e ∷ xs) rounds = let rest = parts xs rounds.1 in ((rounds.0, rest.0), rest.1)
 
--- the last of what may stand after it is a round, or of a client that a failing disk has ended
-pub last_after : (runs : List ClientRun) (es front : List Entry) (last : Entry) → es ≡ front ++ last ∷ []
-    → is_round last.event ≡ false → MayStandAfter runs es
-    → (run : ClientRun) × (slice_get runs last.who ≡ Some run) × (run.end ≡ Some Device) × IsSomeAnd run.refused (λ c. last.event ≡ by_command c)
-last_after runs es front last is no_round (inl rounds) =
-    let yes : is_round last.event ≡ true = last_round front last (subst AreRounds is rounds) in absurd (let no : true ≡ false = sym yes ∙ no_round in cc)
-last_after runs es front last is no_round (inr ends) =
-    let same : ends.last ≡ last = same_last ends.front front ends.last last (sym ends.entries ∙ is) in (
-      ends.client,
-      ap (λ (e : Entry). slice_get runs e.who) (sym same) ∙ ends.sender,
-      ends.failed,
-      subst (λ (e : Entry). IsSomeAnd ends.client.refused (λ c. e.event ≡ by_command c)) same ends.refused,
-    )
+    push : (xs : List Entry) → AreRounds xs → IsTrue (is_round last.event) → AreRounds (xs ++ last ∷ [])
+    push [] rounds round = (round, tt)
+    push (e ∷ xs) rounds round = (rounds.0, push xs rounds.1 round)
+
+    there : MayStandAfter runs es → All (λ (e : Entry). IsTrue (is_round e.event)) front × MayBeLast runs last
+    there (inl rounds) =
+        let both = parts front (subst AreRounds is rounds) in
+        (All-from_recursion (λ (e : Entry). IsTrue (is_round e.event)) front both.0, inl both.1)
+    there (inr ends) =
+        let same = same_from_push front ends.front last ends.last (sym is ∙ ends.entries) in (
+          All-from_recursion (λ (e : Entry). IsTrue (is_round e.event)) front (subst AreRounds (sym same.0) ends.rounds),
+          inr (
+            ends.client,
+            ap (λ (e : Entry). slice_get runs e.who) same.1 ∙ ends.sender,
+            ends.failed,
+            subst (λ (e : Entry). IsSomeAnd ends.client.refused (λ c. e.event ≡ by_command c)) (sym same.1) ends.refused,
+          ),
+        )
+
+    back : All (λ (e : Entry). IsTrue (is_round e.event)) front → MayBeLast runs last → MayStandAfter runs es
+    back rounds (inl round) = inl (subst AreRounds (sym is) (push front (recursion_from_All (λ (e : Entry). IsTrue (is_round e.event)) front rounds) round))
+    back rounds (inr found) = inr (record {
+      front = front;
+      last = last;
+      client = found.0;
+      entries = is;
+      rounds = recursion_from_All (λ (e : Entry). IsTrue (is_round e.event)) front rounds;
+      sender = found.1;
+      failed = found.2;
+      refused = found.3;
+    })
 
 -- what is one history of scripts agrees with what was gathered
 pub agrees_of : {D : Type 0} {ghosts : Ghosts D} (opening : List JobParts) (scripts : List (List Command)) (runners turns : ℕ)

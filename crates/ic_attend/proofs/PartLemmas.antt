@@ -1,10 +1,10 @@
 -- Parts of a history.
-use Rattle.std.proofs.Common.{◌≡◌, ◌≢◌, ℕ, ◌+◌, ◌-◌, ◌<◌, ◌≤◌, ◌==◌, not, suc, arith, subst, List, [], ◌∷◌, ◌++◌, Bool, true, false, Option, None, Some, length, take, drop, refl, sym, ap, ◌∙◌, if◌then◌else◌}
+use Rattle.std.proofs.Common.{◌≡◌, ◌≢◌, ℕ, ◌+◌, ◌-◌, ◌<◌, ◌≤◌, ◌==◌, not, suc, subst, List, [], ◌∷◌, ◌++◌, Bool, true, false, Option, None, Some, length, take, drop, refl, sym, ap, ◌∙◌, if◌then◌else◌}
 use Rattle.std.specs.Prelude.{IfSome, slice_index_or}
 use Rattle.std.specs.Cmp.{unsigned_Decides}
 use Rattle.std.specs.List.{All, cons_option, AllZip}
 use Rattle.std.specs.Option.{unwrap_or}
-use Rattle.std.proofs.lemmas.List.{append-nil, length_push, take_at, take_more, take-append-drop, take-take}
+use Rattle.std.proofs.lemmas.List.{append-nil, take_more, take-append-drop, take-take}
 use Rattle.std.proofs.lemmas.List.Elements.{All-push, filter_map-append}
 use Rattle.std.proofs.lemmas.Bool.{not-true}
 use Rattle.ic_jobs.specs.declared.command.Command.{Command}
@@ -12,7 +12,7 @@ use Rattle.ic_jobs.specs.declared.event.Event.{Event}
 use Rattle.ic_jobs.specs.declared.event.Event.TheVariants.{Command as by_command, Round}
 use Rattle.ic_jobs.specs.declared.event.Entry.{Entry}
 use Rattle.ic_jobs.specs.declared.reply.Reply.{Reply}
-use Rattle.ic_book.specs.Entries.{is_round, command_entry, AreRounds}
+use Rattle.ic_book.specs.Entries.{is_round, command_entry}
 use Rattle.ic_attend.specs.declared.attended.ClientRun.{ClientRun}
 use Rattle.ic_attend.specs.Parts.{answered, answer_to, part}
 use Rattle.ic_attend.specs.declared.client.Speech.{Speech}
@@ -197,13 +197,6 @@ one_more_other who es answers i given e below item none so =
     ∙ ap (λ (x : Entry). part who (take i es) ++ cons_option (answer_to who x) []) item
     ∙ sym (part_more who es i e below)
 
--- the rounds before the last entry
-pub front_rounds : (es front : List Entry) (last : Entry) → es ≡ front ++ last ∷ [] → AreRounds (take (length es - 1) es) → AreRounds front
-front_rounds es front last is rounds =
-    let n : length es - 1 ≡ length front = omega (arith, ap length is, length_push front last) in
-    let same : take (length es - 1) es ≡ front = ap (λ k. take k es) n ∙ ap (take (length front)) is ∙ take_at front (last ∷ []) (length front) refl in
-    subst AreRounds same rounds
-
 -- scripts and runs, one more of each
 pub runs_more : (R : List Command → ClientRun → Type 0) (scripts : List (List Command)) (runs : List ClientRun) (script : List Command) (run : ClientRun)
     → AllZip R scripts runs → R script run → AllZip R (scripts ++ script ∷ []) (runs ++ run ∷ [])
@@ -223,11 +216,11 @@ keeps_to a b speech same speaks on =
     record { follows = s.follows; finished = s.finished (not-true speech.stopped on) }
 
 -- a runner whose thread wasn't started is idle
-may_be_or_idle : (workers : ℕ) (end : Option RunnerEnd) → IfSome end (EndMayBe workers) → EndMayBe workers (unwrap_or end Idle)
-may_be_or_idle workers None may = tt
-may_be_or_idle workers (Some end) may = may
+may_be_or_idle : (turns workers : ℕ) (end : Option RunnerEnd) → IfSome end (EndMayBe turns workers) → EndMayBe turns workers (unwrap_or end Idle)
+may_be_or_idle turns workers None may = tt
+may_be_or_idle turns workers (Some end) may = may
 
-pub ends_more : (workers : ℕ) (old new : List RunnerEnd) (end : Option RunnerEnd) → new ≡ old ++ unwrap_or end Idle ∷ [] → All (EndMayBe workers) old → IfSome end (EndMayBe workers)
-    → All (EndMayBe workers) new
-ends_more workers old new end grown all may =
-    subst (λ (ends : List RunnerEnd). All (EndMayBe workers) ends) (sym grown) (All-push (EndMayBe workers) old (unwrap_or end Idle) all (may_be_or_idle workers end may))
+pub ends_more : (turns workers : ℕ) (old new : List RunnerEnd) (end : Option RunnerEnd) → new ≡ old ++ unwrap_or end Idle ∷ [] → All (EndMayBe turns workers) old → IfSome end (EndMayBe turns workers)
+    → All (EndMayBe turns workers) new
+ends_more turns workers old new end grown all may =
+    subst (λ (ends : List RunnerEnd). All (EndMayBe turns workers) ends) (sym grown) (All-push (EndMayBe turns workers) old (unwrap_or end Idle) all (may_be_or_idle turns workers end may))

@@ -17,7 +17,8 @@ use Rattle.ic_book.specs.declared.fault.BookFault.{BookFault}
 use Rattle.ic_book.specs.declared.fault.BookFault.TheVariants.{Broken, Worn, Memory}
 use Rattle.ic_book.specs.declared.limits.TheConstants.{MAX_ENTRIES}
 use Rattle.ic_book.specs.Book.{start_of, log_of, table_of, kept_of, keeper_of, disk_of, is_broken, number_of}
-use Rattle.ic_book.specs.Calls.{BreaksOrStays, LeavesKeptOrAll, RefusesRound, TakesRound, TellsBroken, TellsFull}
+use Rattle.ic_book.specs.Calls.{BreaksOrStays, RefusesRound, TakesRound, TellsBroken, TellsFull}
+use Rattle.ic_book.specs.Crashes.{LeavesKeptOrAll}
 use Rattle.ic_book.specs.Entries.{leaves_table, round_entry}
 use Rattle.ic_book.specs.Moves.{round_move}
 use Rattle.ic_book.specs.Server.{Step, StepsByCommand, up}

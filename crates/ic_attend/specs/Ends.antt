@@ -43,22 +43,22 @@ PlayTells workers of_pool.Stranger = Unit {0}
 PlayTells workers of_pool.RoundsOut = ⊥
 
 -- How a runner may end, whatever the book is. It keeps nothing, so two refusals by the book never
--- come.
-abbrev pub EndMayBe : (workers : ℕ) → RunnerEnd → Type 0
-EndMayBe workers Idle = Unit {0}
-EndMayBe workers Turns = Unit {0}
-EndMayBe workers (by_book Broken) = Unit {0}
-EndMayBe workers (by_book LogFull) = Unit {0}
-EndMayBe workers (by_book Worn) = ⊥
-EndMayBe workers (by_book Memory) = Unit {0}
-EndMayBe workers (by_book Device) = ⊥
-EndMayBe workers (by_pool fault) = PlayTells workers fault
+-- come. One that has used up its turns took no more rounds than it had turns.
+abbrev pub EndMayBe : (turns workers : ℕ) → RunnerEnd → Type 0
+EndMayBe turns workers Idle = Unit {0}
+EndMayBe turns workers (Turns taken) = taken ≡ turns
+EndMayBe turns workers (by_book Broken) = Unit {0}
+EndMayBe turns workers (by_book LogFull) = Unit {0}
+EndMayBe turns workers (by_book Worn) = ⊥
+EndMayBe turns workers (by_book Memory) = Unit {0}
+EndMayBe turns workers (by_book Device) = ⊥
+EndMayBe turns workers (by_pool fault) = PlayTells workers fault
 
 -- what a runner's end says, if it is a refusal
 abbrev pub EndTells : {D : Type 0} {ghosts : Ghosts D}
     → (workers : ℕ) → Book D ghosts → RunnerEnd → Type 0
 EndTells workers book Idle = Unit {0}
-EndTells workers book Turns = Unit {0}
+EndTells workers book (Turns taken) = Unit {0}
 EndTells workers book (by_book fault) = RoundTells book fault
 EndTells workers book (by_pool fault) = PlayTells workers fault
 

@@ -76,23 +76,24 @@ pub record IsAsOpened {D : Type 0} {ghosts : Ghosts D} (disk : D) (book : Book D
 -- Each script's client was answered its first commands, or none, and was refused the next one
 -- exactly where it has an end. Each runner has an end that may be a runner's.
 pub record AreFollowed {D : Type 0} {ghosts : Ghosts D} (scripts : List (List Command))
-    (runners workers : ℕ) (a : Attended D ghosts) : Type 0 where
+    (runners turns workers : ℕ) (a : Attended D ghosts) : Type 0 where
   pub followed : AllZip Follows scripts a.answers.items
   pub counted : length a.ends.items ≡ runners
-  pub may_be : All (EndMayBe workers) a.ends.items
+  pub may_be : All (EndMayBe turns workers) a.ends.items
 
 -- Scripts were followed, and the book began with the table that the disk holds.
 pub record IsStopped {D : Type 0} (ghosts : Ghosts D) (disk : D) (scripts : List (List Command))
-    (runners workers : ℕ) (a : Attended D ghosts) : Type 0 where
+    (runners turns workers : ℕ) (a : Attended D ghosts) : Type 0 where
   pub held : IsTrue (ghosts.keeps disk)
       → IsHeld (the_table (start_of a.book)) (ghosts.content disk)
-  pub followed : AreFollowed scripts runners workers a
+  pub followed : AreFollowed scripts runners turns workers a
 
 -- Scripts were followed, but the book began with another table.
 pub record BeganOtherwise {D : Type 0} {ghosts : Ghosts D} (opening : List JobParts)
-    (scripts : List (List Command)) (runners workers : ℕ) (a : Attended D ghosts) : Type 0 where
+    (scripts : List (List Command)) (runners turns workers : ℕ) (a : Attended D ghosts)
+    : Type 0 where
   pub other : start_of a.book ≢ opening
-  pub followed : AreFollowed scripts runners workers a
+  pub followed : AreFollowed scripts runners turns workers a
 
 -- Each client keeps to its script and each runner has an end that may be a runner's. But the book
 -- began with another table, or its log isn't one history of them, or an end by a refusal isn't borne
@@ -102,7 +103,7 @@ pub record Differs {D : Type 0} {ghosts : Ghosts D} (opening : List JobParts)
     : Type 0 where
   pub scripts_kept : AllZip KeepsTo scripts a.answers.items
   pub counted : length a.ends.items ≡ runners
-  pub may_be : All (EndMayBe workers) a.ends.items
+  pub may_be : All (EndMayBe turns workers) a.ends.items
   pub differs : start_of a.book ≡ opening → IsOneHistory scripts runners turns a
       → ¬ EndsTell workers a
 
@@ -111,5 +112,5 @@ pub record IsTorn {D : Type 0} (ghosts : Ghosts D) (disk : D) (scripts : List (L
     (runners turns workers : ℕ) (a : Attended D ghosts) : Type 0 where
   pub opening : List JobParts
   pub held : IsTrue (ghosts.keeps disk) → IsHeld (the_table opening) (ghosts.content disk)
-  pub torn : BeganOtherwise opening scripts runners workers a
+  pub torn : BeganOtherwise opening scripts runners turns workers a
       ⊎ Differs opening scripts runners turns workers a

@@ -16,9 +16,10 @@ NoneRuns table = All (λ j. is_running j.state ≡ false) table
 abbrev pub rounds_among : List Entry → ℕ
 rounds_among es = count_by (λ e. is_round e.event) es
 
--- An idle runner leaves no job that runs. One that used up its turns leaves at least so many rounds.
+-- An idle runner leaves no job that runs. One that used up its turns took so many rounds, and leaves
+-- at least these.
 abbrev pub EndHolds : (turns : ℕ) (table : List JobParts) (log : List Entry) → RunnerEnd → Type 0
 EndHolds turns table log Idle = NoneRuns table
-EndHolds turns table log Turns = turns ≤ rounds_among log
+EndHolds turns table log (Turns taken) = (taken ≡ turns) × (taken ≤ rounds_among log)
 EndHolds turns table log (by_book fault) = Unit {0}
 EndHolds turns table log (by_pool fault) = Unit {0}

@@ -2,3 +2,4 @@
 pub mod Speech
 pub mod Gathering
 pub mod Crews
+pub mod Lasts

@@ -21,8 +21,8 @@ pub struct ClientRun {
 pub enum RunnerEnd {
     /// Nothing was due, once all scripts had ended.
     Idle,
-    /// It has used up its turns, which count once all scripts have ended.
-    Turns,
+    /// It has used up its turns, which count once all scripts have ended: so many rounds it took.
+    Turns(usize),
     /// The book refused it.
     Book(BookFault),
     /// A round could not be made.

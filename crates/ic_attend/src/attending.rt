@@ -57,7 +57,7 @@ pub fn attend<R: Threads + Wait + Sync, D: Disk + Send, G: Gate>(
     // At `NoThread` the first commands of each script were answered, or none, and the log goes on
     // from the table that the disk holds. `Torn` comes only where one of the facts at Ok fails.
     ensures stopped { IfStopped result (λ attended.
-        IsStopped D.Disk disk (map vec_items scripts.items) runners workers attended) }
+        IsStopped D.Disk disk (map vec_items scripts.items) runners turns workers attended) }
     ensures torn { IfTorn result (λ attended.
         IsTorn D.Disk disk (map vec_items scripts.items) runners turns workers attended) }
 {
@@ -115,13 +115,13 @@ fn attend_book<R: Threads + Wait + Sync, D: Disk + Send, G: Gate>(
     ensures ends { IfOk result (λ attended. EndsTell duty.workers attended) }
     ensures begun { IsBegun result }
     ensures stopped { IfStopped result (λ attended.
-        AreFollowed (map vec_items scripts.items) runners duty.workers attended) }
+        AreFollowed (map vec_items scripts.items) runners duty.turns duty.workers attended) }
     ensures stopped_start { IfStopped result (λ attended.
         start_of attended.book ≡ opening.now) }
     ensures torn { IfTorn result (λ attended.
-        BeganOtherwise opening.now (map vec_items scripts.items) runners duty.workers attended
-        ⊎ Differs opening.now (map vec_items scripts.items) runners duty.turns duty.workers
-        attended) }
+        BeganOtherwise opening.now (map vec_items scripts.items) runners duty.turns duty.workers
+        attended ⊎ Differs opening.now (map vec_items scripts.items) runners duty.turns
+        duty.workers attended) }
 {
     let signs = Signs::new(scripts.len() as u64);
     let desk = Desk::new(book);

@@ -1,11 +1,12 @@
 //! The history compared with what the threads gathered, exactly. It takes no memory.
 
-ghost use Rattle.std.specs.Prelude.{◌≡◌, ◌↔◌, ◌-◌, Some, IsTrue, IsSomeAnd, length, take, map, slice_get};
+ghost use Rattle.std.specs.Prelude.{◌≡◌, ◌↔◌, Some, IsTrue, IsSomeAnd, map, slice_get};
 ghost use Rattle.std.specs.List.{All};
 ghost use Rattle.ic_jobs.specs.declared.event.Event.TheVariants.{Command as by_command};
 ghost use Rattle.ic_book.specs.declared.fault.BookFault.TheVariants.{Device as by_device};
 ghost use Rattle.ic_book.specs.Book.{start_of};
-ghost use Rattle.ic_book.specs.Entries.{is_round, AreRounds};
+ghost use Rattle.ic_book.specs.Entries.{is_round};
+ghost use Rattle.ic_attend.specs.inner.Lasts.{MayBeLast};
 ghost use Rattle.ic_attend.specs.declared.attended.ClientRun.{ClientRun as Run};
 ghost use Rattle.ic_attend.specs.Parts.{part, AreOfClients};
 ghost use Rattle.ic_attend.specs.Clients.{AreParts, FailureStandsLast, FailuresStandLast, MayStandAfter, StandsLast};
@@ -115,13 +116,31 @@ fn is_answer(entry: &Entry, answer: &(Command, Reply)) -> bool
 /// Whether these entries are rounds, or rounds and one last command at which a failing disk has ended
 /// its client.
 fn may_stand_after(entries: &[Entry], runs: &[ClientRun]) -> bool
-    requires { AreRounds (take (length entries.now - 1) entries.now) }
     ensures { IsTrue result ↔ MayStandAfter runs.now entries.now }
 {
     match entries.split_last() {
         None => true,
-        Some((last, _)) => is_round(&last.event) || has_failed(runs, last.who, &last.event),
+        Some((last, front)) => are_rounds(front) && may_be_last(last, runs),
     }
+}
+
+/// Whether an entry is a round, or the command at which a failing disk has ended its client.
+fn may_be_last(entry: &Entry, runs: &[ClientRun]) -> bool
+    ensures { IsTrue result ↔ MayBeLast runs.now entry.now }
+{
+    is_round(&entry.event) || has_failed(runs, entry.who, &entry.event)
+}
+
+/// Whether each of these entries is a round.
+fn are_rounds(entries: &[Entry]) -> bool
+    ensures { IsTrue result ↔ All (λ e. IsTrue (is_round e.event)) entries.now }
+{
+    for entry in entries {
+        if !is_round(&entry.event) {
+            return false;
+        }
+    }
+    true
 }
 
 /// Whether a failing disk has ended this client at this command.
@@ -221,7 +240,7 @@ fn end_holds(end: RunnerEnd, turns: usize, jobs: &[Job], entries: &[Entry]) -> b
 {
     match end {
         RunnerEnd::Idle => none_runs(jobs),
-        RunnerEnd::Turns => turns <= count_rounds(entries),
+        RunnerEnd::Turns(taken) => taken == turns && taken <= count_rounds(entries),
         RunnerEnd::Book(_) | RunnerEnd::Pool(_) => true,
     }
 }

@@ -28,7 +28,7 @@ ghost use Rattle.ic_book.specs.Entries.{command_entry, round_entry};
 ghost use Rattle.ic_book.specs.Lives.{IsPage};
 ghost use Rattle.ic_attend.specs.declared.attended.ClientRun.{ClientRun as Run};
 ghost use Rattle.ic_attend.specs.declared.attended.RunnerEnd.{RunnerEnd};
-ghost use Rattle.ic_attend.specs.declared.attended.RunnerEnd.TheVariants.{Book as by_book, Pool as by_pool};
+ghost use Rattle.ic_attend.specs.declared.attended.RunnerEnd.TheVariants.{Turns as used_up, Book as by_book, Pool as by_pool};
 ghost use Rattle.ic_attend.specs.Desk.{AddsOneAtMost, IsCommanded, IsLanded};
 ghost use Rattle.ic_attend.specs.Ends.{EndMayBe, EndTells};
 ghost use Rattle.ic_attend.specs.OneHistory.{IsOneHistory, kept_log};
@@ -200,16 +200,20 @@ pub fn one_client_is_told_of_a_failure<D: Disk>(attended: &Attended<D>)
 }
 
 /// A runner keeps nothing, and halts a job that can't make a round. So it never ends by worn numbers,
-/// a failing disk or such a job, and for want of workers only where there are none. All that the book
-/// and the workers bear out may be its end.
+/// a failing disk or such a job, and for want of workers only where there are none. One that used up
+/// its turns took just so many rounds. A refusal that the book and the workers bear out may be its end.
 pub fn runners_end_so<D: Disk>(attended: &Attended<D>)
-    ensures book { (workers : ℕ) → ¬ EndMayBe workers (by_book Worn)
-        × ¬ EndMayBe workers (by_book Device) }
-    ensures flight { (workers : ℕ) (fault : PoolFault) → IsTrue (is_of_flight fault)
-        → ¬ EndMayBe workers (by_pool fault) }
-    ensures workers { (workers : ℕ) → EndMayBe workers (by_pool NoWorkers) → workers ≡ 0 }
-    ensures told { (workers : ℕ) (end : RunnerEnd)
-        → EndTells workers attended.now.book end → EndMayBe workers end }
+    ensures book { (turns workers : ℕ) → ¬ EndMayBe turns workers (by_book Worn)
+        × ¬ EndMayBe turns workers (by_book Device) }
+    ensures flight { (turns workers : ℕ) (fault : PoolFault) → IsTrue (is_of_flight fault)
+        → ¬ EndMayBe turns workers (by_pool fault) }
+    ensures workers { (turns workers : ℕ)
+        → EndMayBe turns workers (by_pool NoWorkers) → workers ≡ 0 }
+    ensures turns { (turns workers taken : ℕ)
+        → EndMayBe turns workers (used_up taken) ↔ (taken ≡ turns) }
+    ensures told { (turns workers : ℕ) (end : RunnerEnd)
+        → ((taken : ℕ) → end ≢ used_up taken)
+        → EndTells workers attended.now.book end → EndMayBe turns workers end }
 {
     let _ = attended;
 }

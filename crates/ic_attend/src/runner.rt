@@ -1,6 +1,6 @@
 //! A runner: it takes rounds, has its crew make them outside the lock, and lands them.
 
-ghost use Rattle.std.specs.Prelude.{◌≡◌, ◌≢◌, ◌≤◌, ◌+◌, IfErr, OnOk, true, false, if◌then◌else◌};
+ghost use Rattle.std.specs.Prelude.{◌≡◌, ◌≢◌, ◌≤◌, ◌+◌, ℕ, IfErr, OnOk, true, false, if◌then◌else◌};
 ghost use Rattle.ic_flights.specs.Flight.{is_blocked};
 ghost use Rattle.ic_attend.specs.declared.attended.RunnerEnd.TheVariants.{Pool as by_pool};
 ghost use Rattle.ic_attend.specs.Ends.{EndMayBe};
@@ -74,7 +74,7 @@ pub(crate) fn make_rounds<R: Threads + Wait, D: Disk, G: Gate>(
     duty: Duty,
 ) -> RunnerEnd
     requires { IsReadyFor duty.workers crew }
-    ensures { EndMayBe duty.workers result }
+    ensures { EndMayBe duty.turns duty.workers result }
 {
     let mut taken = 0;
     take_rounds(rt, alloc, desk, signs, gate, crew, duty, &mut taken)
@@ -93,9 +93,9 @@ fn take_rounds<R: Threads + Wait, D: Disk, G: Gate>(
 ) -> RunnerEnd
     requires ready { IsReadyFor duty.workers crew }
     requires none { taken.old ≡ 0 }
-    ensures end { EndMayBe duty.workers result }
+    ensures end { EndMayBe duty.turns duty.workers result }
     ensures turns { taken.new ≤ duty.turns }
-    ensures used { result ≡ RunnerEnd.Turns → taken.new ≡ duty.turns }
+    ensures used { (count : ℕ) → result ≡ RunnerEnd.Turns count → count ≡ taken.new }
 {
     let mut laps = Laps::new();
     for _ in rt.forever() {
@@ -104,7 +104,7 @@ fn take_rounds<R: Threads + Wait, D: Disk, G: Gate>(
         }
         let is_turn = signs.have_all_ended();
         if !may_take(is_turn, taken, duty.turns) {
-            return RunnerEnd::Turns;
+            return RunnerEnd::Turns(*taken);
         }
         match desk.take(rt, laps.next) {
             Ok(Some(flight)) => {
@@ -158,7 +158,7 @@ fn make_round<R: Wait, D: Disk>(
 ) -> Result<Landed, RunnerEnd>
     requires { IsUnspent crew.old }
     ensures end { IfErr result (EndMayBeWith crew.old) }
-    ensures refusal { IfErr result (λ end. end ≢ RunnerEnd.Turns) }
+    ensures refusal { (count : ℕ) → IfErr result (λ end. end ≢ RunnerEnd.Turns count) }
     ensures ready { OnOk result (StaysReady crew.old crew.new) }
 {
     let landed = if flight.blocked() {

@@ -54,7 +54,7 @@ fn end_tells<D: Disk>(book: &Book<D>, end: RunnerEnd, workers: usize) -> bool
     ensures { IsTrue result ↔ EndTells workers book.now end }
 {
     match end {
-        RunnerEnd::Idle | RunnerEnd::Turns => true,
+        RunnerEnd::Idle | RunnerEnd::Turns(_) => true,
         RunnerEnd::Book(fault) => round_tells(book, fault),
         RunnerEnd::Pool(fault) => play_tells(fault, workers),
     }

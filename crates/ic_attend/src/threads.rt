@@ -36,16 +36,17 @@ impl Promise<Speech> for Script {
     ghost kept_by = { λ p speech. Speaks p.commands.value.items speech };
 }
 
-/// What a runner's thread promises: an end that a runner with so many workers may have.
+/// What a runner's thread promises: an end that a runner with so many turns and workers may have.
 #[derive(Drop)]
 struct Ending {
+    turns: usize,
     workers: usize,
 }
 
 impl Promise<RunnerEnd> for Ending {
     ghost use Rattle.ic_attend.specs.Ends.{EndMayBe};
 
-    ghost kept_by = { λ p end. EndMayBe p.workers end };
+    ghost kept_by = { λ p end. EndMayBe p.turns p.workers end };
 }
 
 /// A runner's thread, and those of its crew.
@@ -71,7 +72,7 @@ pub(crate) fn gather<R: Threads + Wait + Sync, D: Disk + Send, G: Gate>(
 ) -> Gathered
     requires ready { IsReady (vec_len scripts) runners gathered }
     requires crews { 0 < duty.workers → vec_len crews ≡ runners }
-    ensures { HasGathered (map vec_items scripts.items) runners duty.workers result }
+    ensures { HasGathered (map vec_items scripts.items) runners duty.turns duty.workers result }
 {
     thread::scope(
         thread::scope_env(),
@@ -79,7 +80,7 @@ pub(crate) fn gather<R: Threads + Wait + Sync, D: Disk + Send, G: Gate>(
         |scope| -> Gathered
             requires ready { IsReady (vec_len scripts) runners gathered }
             requires crews { 0 < duty.workers → vec_len crews ≡ runners }
-            ensures { HasGathered (map vec_items scripts.items) runners duty.workers result }
+            ensures { HasGathered (map vec_items scripts.items) runners duty.turns duty.workers result }
         {
             start_clients(
                 rt, alloc, scope, desk, signs, gate, scripts, runners, crews, duty, gathered,
@@ -105,7 +106,7 @@ fn start_clients<'s, R: Threads + Wait + Sync, E, D: Disk + Send, G: Gate>(
 ) -> Gathered
     requires ready { IsReady (vec_len scripts) runners gathered }
     requires crews { 0 < duty.workers → vec_len crews ≡ runners }
-    ensures gathered { HasGathered (map vec_items scripts.items) runners duty.workers result }
+    ensures gathered { HasGathered (map vec_items scripts.items) runners duty.turns duty.workers result }
     ensures len { vec_len result.answers ≡ vec_len scripts }
     ensures room { vec_capacity result.answers ≡ vec_capacity gathered.answers }
 {
@@ -194,7 +195,7 @@ fn start_runners<'s, R: Threads + Wait + Sync, E, D: Disk + Send, G: Gate>(
     requires ready { IsReady 0 runners gathered }
     requires crews { 0 < duty.workers → vec_len crews ≡ runners }
     ensures count { length result.ends.items ≡ runners }
-    ensures may_be { All (EndMayBe duty.workers) result.ends.items }
+    ensures may_be { All (EndMayBe duty.turns duty.workers) result.ends.items }
     ensures len { vec_len result.ends ≡ runners }
     ensures room { vec_capacity result.ends ≡ vec_capacity gathered.ends }
     ensures answers { result.answers ≡ gathered.answers }
@@ -208,7 +209,7 @@ fn start_runners<'s, R: Threads + Wait + Sync, E, D: Disk + Send, G: Gate>(
     let mut gathered = start_runners(
         rt, alloc, scope, desk, signs, gate, others, crews, duty, gathered,
     );
-    gathered.add_end(await_end(rt, runner, duty.workers));
+    gathered.add_end(await_end(rt, runner, duty));
     gathered
 }
 
@@ -225,7 +226,8 @@ fn start_runner<'s, R: Threads + Wait + Sync, E, D: Disk + Send, G: Gate>(
     duty: Duty,
 ) -> Option<Runner>
     requires { crew ≡ None → duty.workers ≡ 0 }
-    ensures { IfSome result (λ runner. runner.handle.promise.workers ≡ duty.workers) }
+    ensures { IfSome result (λ runner. (runner.handle.promise.turns ≡ duty.turns)
+        × (runner.handle.promise.workers ≡ duty.workers)) }
 {
     if signs.are_told_to_stop() {
         return None;
@@ -249,17 +251,19 @@ fn start_with_crew<'s, R: Threads + Wait + Sync, E, D: Disk + Send, G: Gate>(
     duty: Duty,
 ) -> Option<Runner>
     requires { crew ≡ None → duty.workers ≡ 0 }
-    ensures { IfSome result (λ runner. runner.handle.promise.workers ≡ duty.workers) }
+    ensures { IfSome result (λ runner. (runner.handle.promise.turns ≡ duty.turns)
+        × (runner.handle.promise.workers ≡ duty.workers)) }
 {
     let Standing { crew, threads } = start_crew(rt, alloc, scope, gate, crew)?;
     let promise = Ending {
+        turns: duty.turns,
         workers: duty.workers,
     };
     let started = scope.spawn_with(
         promise,
         move || -> RunnerEnd
             requires { IsReadyFor duty.workers crew }
-            ensures { EndMayBe duty.workers result }
+            ensures { EndMayBe duty.turns duty.workers result }
         { make_rounds(rt, alloc, desk, signs, gate, crew, duty) },
     );
     match started {
@@ -274,9 +278,10 @@ fn start_with_crew<'s, R: Threads + Wait + Sync, E, D: Disk + Send, G: Gate>(
 }
 
 /// How a runner ended, once its crew is joined too: none where it wasn't started.
-fn await_end<R: Threads>(rt: &R, runner: Option<Runner>, workers: usize) -> Option<RunnerEnd>
-    requires { IfSome runner (λ started. started.handle.promise.workers ≡ workers) }
-    ensures { IfSome result (EndMayBe workers) }
+fn await_end<R: Threads>(rt: &R, runner: Option<Runner>, duty: Duty) -> Option<RunnerEnd>
+    requires { IfSome runner (λ started. (started.handle.promise.turns ≡ duty.turns)
+        × (started.handle.promise.workers ≡ duty.workers)) }
+    ensures { IfSome result (EndMayBe duty.turns duty.workers) }
 {
     let Runner { handle, threads } = runner?;
     let end = handle.join(rt);

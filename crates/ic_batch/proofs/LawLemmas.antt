@@ -1,5 +1,5 @@
 -- Ways and their ends.
-use Rattle.std.proofs.Common.{◌≡◌, ⊎_elim, ℕ, zero, suc, ◌+◌, ◌-◌, ◌<◌, ◌≤◌, List, [], ◌∷◌, ◌++◌, Bool, true, false, ◌&&◌, None, Some, Option, refl, sym, ap, ap₂, subst, ◌∙◌, arith}
+use Rattle.std.proofs.Common.{◌≡◌, ⊎_elim, ℕ, zero, suc, ◌+◌, ◌-◌, ◌<◌, ◌≤◌, List, [], ◌∷◌, ◌++◌, Bool, true, false, ◌&&◌, None, Some, Option, drop, length, map, refl, sym, ap, ap₂, subst, ◌∙◌, arith}
 use Rattle.std.specs.Prelude.{IfSome, if◌then◌else◌}
 use Rattle.std.specs.List.{AllByRecursion, AllZip}
 use Rattle.std.proofs.lemmas.Bool.{cases_lt, lt-ltb, ltb-true}
@@ -10,9 +10,9 @@ use Rattle.ic_jobs.specs.Table.{job_named}
 use Rattle.ic_batch.specs.declared.jobs.NewJob.{NewJob}
 use Rattle.ic_batch.specs.declared.fault.Difference.{Difference}
 use Rattle.ic_batch.specs.declared.fault.Difference.TheVariants as difference
-use Rattle.ic_batch.specs.Faults.{AreSame, HasAnother, IsSame}
+use Rattle.ic_batch.specs.Faults.{AreSame, Differs, HasAnother, IsSame}
 use Rattle.ic_batch.specs.Jobs.{begun_by}
-use Rattle.ic_batch.specs.Way.{goes_on, gone_on, after_event, after, IsOnWay, ComesTo, AreOnWay, IsTextOf, IsIterate, lines_of}
+use Rattle.ic_batch.specs.Way.{goes_on, gone_on, after_event, after, IsOnWay, ComesTo, AreOnWay, IsTextOf, lines_of}
 use Rattle.ic_batch.proofs.DueLemmas.{few}
 use Rattle.ic_batch.proofs.WayLemmas.{after_more, runs, stands_on}
 
@@ -44,6 +44,12 @@ pub one_text : (most : ℕ) (jobs : List NewJob) (one other : List ℕ) → IsTe
 one_text most jobs one other first second = first.2 ∙ ap lines_of (same_ends most jobs first.0 second.0 first.1 second.1) ∙ sym second.2
 
 -- ---- iterates
+
+pub record IsIterate (new : NewJob) (j : JobParts) : Type 0 where
+  pub name : j.name ≡ new.name
+  pub rules : j.rules ≡ new.system.rules
+  pub budget : j.budget ≡ new.budget
+  pub config : j.config ≡ iterate new.system.rules.rules j.rounds new.system.config
 
 module _ (new : NewJob) where
   round_is : (j : JobParts) → IsIterate new j → IsIterate new (moved j)
@@ -119,6 +125,39 @@ not_same jobs t name is same another =
     let there : job_named new.name t ≡ Some another.job = ap (λ (n : List ℕ). job_named n t) another.named ∙ another.there in
     let on = subst (λ (o : Option JobParts). IfSome o (IsSame new)) there one in
     on is another.differs
+
+-- where jobs are the same one of them doesn't differ
+pub same_there : (before after : List NewJob) (new : NewJob) (t : List JobParts) (job : JobParts) (is : Difference) → AreSame (before ++ new ∷ after) t → job_named new.name t ≡ Some job → ¬ Differs new job is
+same_there before after new t job is same there differs =
+    let one = among (λ k. IfSome (job_named k.name t) (IsSame k)) before new after same in
+    let on = subst (λ (o : Option JobParts). IfSome o (IsSame new)) there one in
+    on is differs
+
+pub is_another : (before after : List NewJob) (new : NewJob) (t : List JobParts) (job : JobParts) (is : Difference) → AreSame before t → job_named new.name t ≡ Some job → Differs new job is → HasAnother (before ++ new ∷ after) t new.name is
+is_another before after new t job is same there differs = record {
+  before = before;
+  new = new;
+  after = after;
+  among = refl;
+  first = same;
+  named = refl;
+  job = job;
+  there = there;
+  differs = differs;
+}
+
+-- ---- those that were missing stand after a table
+
+zip_begun : (R : JobParts → JobParts → Type 0) (more : List NewJob) (u : List JobParts) → AllZip R (map begun_by more) u → AllZip (λ new j. R (begun_by new) j) more u
+zip_begun R [] [] zip = tt
+zip_begun R (new ∷ more) (j ∷ u) zip = (zip.0, zip_begun R more u zip.1)
+zip_begun R [] (j ∷ u) zip = absurd zip
+zip_begun R (new ∷ more) [] zip = absurd zip
+
+pub come_after : (R : JobParts → JobParts → Type 0) (t : List JobParts) (more : List NewJob) (u : List JobParts) → AllZip R (t ++ map begun_by more) u → AllZip (λ new j. R (begun_by new) j) more (drop (length t) u)
+come_after R [] more u zip = zip_begun R more u zip
+come_after R (x ∷ t) more (j ∷ u) zip = come_after R t more u zip.1
+come_after R (x ∷ t) more [] zip = absurd zip
 
 -- ---- jobs that may make more rounds, and jobs as they began
 

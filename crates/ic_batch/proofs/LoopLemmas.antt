@@ -19,7 +19,7 @@ module _ {X : Type 0} (xs : List X) (i : ℕ) (x : X) (below : i < length xs) (i
   parted_here = sym (take-append-drop i xs) ∙ ap (λ (l : List X). take i xs ++ l) split_here
 
   -- one element more is so
-  pub all_more : (P : X → Type 0) → P x → (AllByRecursion P (drop i xs) → AllByRecursion P xs) → AllByRecursion P (drop (i + 1) xs) → AllByRecursion P xs
+  pub all_more : (P : X → Type 0) {Q : Type 0} → P x → (AllByRecursion P (drop i xs) → Q) → AllByRecursion P (drop (i + 1) xs) → Q
   all_more P here so_far rest = so_far (subst (λ (l : List X). AllByRecursion P l) (sym split_here) (here, rest))
 
   -- the text of one element more is there
@@ -29,7 +29,7 @@ module _ {X : Type 0} (xs : List X) (i : ℕ) (x : X) (below : i < length xs) (i
       ap (λ (l : List ℕ). l ++ flat_map f (drop (i + 1) xs)) put ∙ append_assoc old (f x) (flat_map f (drop (i + 1) xs)) ∙ ap (λ (l : List ℕ). old ++ l) (sym (flat_map-cons f x (drop (i + 1) xs)))
       ∙ ap (λ (l : List X). old ++ flat_map f l) (sym split_here) ∙ so_far
 
-pub all_over : {X : Type 0} (P : X → Type 0) (xs : List X) (i : ℕ) → length xs ≤ i → (AllByRecursion P (drop i xs) → AllByRecursion P xs) → AllByRecursion P xs
+pub all_over : {X : Type 0} (P : X → Type 0) {Q : Type 0} (xs : List X) (i : ℕ) → length xs ≤ i → (AllByRecursion P (drop i xs) → Q) → Q
 all_over P xs i past so_far = so_far (subst (λ l. AllByRecursion P l) (sym (drop_all i xs past)) tt)
 
 pub text_over : {X : Type 0} (f : X → List ℕ) (xs : List X) (i : ℕ) (text : List ℕ) → length xs ≤ i → text ++ flat_map f (drop i xs) ≡ flat_map f xs → text ≡ flat_map f xs

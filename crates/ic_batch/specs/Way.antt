@@ -1,7 +1,6 @@
 -- How far a batch takes a job, and what is on a disk meanwhile (this project's choice).
 use Rattle.std.specs.Prelude.{◌≡◌, ◌⊎◌, ◌&&◌, ◌++◌, ℕ, zero, suc, List, Bool, false, not, is_some, nat_lt, if◌then◌else◌, filter, map, IfSome}
 use Rattle.std.specs.List.{AllByRecursion, AllZip, flat_map}
-use Rattle.ic_round.specs.Rounds.{iterate}
 use Rattle.ic_jobs.specs.declared.command.Command.TheVariants.{Fetch}
 use Rattle.ic_jobs.specs.declared.state.State.TheVariants.{Halted}
 use Rattle.ic_jobs.specs.Events.{after_command}
@@ -94,11 +93,3 @@ lines_of js = flat_map (λ j. ended (shown_text (shown j))) js
 abbrev pub IsTextOf : (most : ℕ) → List NewJob → List ℕ → Type 0
 IsTextOf most jobs text = (ends : List JobParts)
     × AllZip (λ new end. ComesTo most (begun_by new) end) jobs ends × (text ≡ lines_of ends)
-
--- A job is an iterate of a new one: it has its name, its rules and its budget, and its configuration is
--- the iterate of the round, after its rounds, on the one that the new job begins with.
-pub record IsIterate (new : NewJob) (j : JobParts) : Type 0 where
-  pub name : j.name ≡ new.name
-  pub rules : j.rules ≡ new.system.rules
-  pub budget : j.budget ≡ new.budget
-  pub config : j.config ≡ iterate new.system.rules.rules j.rounds new.system.config

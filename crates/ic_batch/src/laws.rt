@@ -1,15 +1,20 @@
 //! Laws of the definitions that the contracts of this crate cite.
 
-ghost use Rattle.std.specs.Prelude.{◌≡◌, ◌≢◌, ◌<◌, ◌≤◌, ◌++◌, ◌+◌, ◌-◌, ◌*◌, ◌/◌, ◌^◌, ◌⊎◌, ℕ, List, [], ◌∷◌, IfSome, Option, Result, Some, Ok, Err, false, true, length, map, slice_get, take};
-ghost use Rattle.std.specs.List.{AllByRecursion, IsDistinct, filter_map, flat_map};
+ghost use Rattle.std.specs.Prelude.{◌≡◌, ◌≢◌, ◌↔◌, ◌<◌, ◌≤◌, ◌++◌, ◌+◌, ◌-◌, ◌*◌, ◌/◌, ◌^◌, ◌⊎◌, ℕ, List, [], ◌∷◌, IfSome, Option, Result, Some, Ok, Err, false, true, drop, length, map, slice_get, take};
+ghost use Rattle.std.specs.List.{AllByRecursion, AllZip, IsDistinct, filter_map, flat_map};
 ghost use Rattle.std.specs.Io.KnownBytes.{Appends, Keeps};
 ghost use Rattle.std.specs.Str.{bytes_eq};
 ghost use Rattle.ic_text.specs.declared.fault.TextFault.{TextFault};
+ghost use Rattle.ic_text.specs.declared.fault.TextFault.TheVariants.{Syntax};
+ghost use Rattle.ic_round.specs.Rounds.{iterate};
 ghost use Rattle.ic_jobs.specs.declared.command.Command.{Command};
 ghost use Rattle.ic_jobs.specs.declared.reply.Refusal.{Refusal};
+ghost use Rattle.ic_jobs.specs.declared.reply.Reply.TheVariants as reply;
 ghost use Rattle.ic_jobs.specs.declared.limits.TheConstants.{MAX_JOBS};
 ghost use Rattle.ic_jobs.specs.State.{is_running};
+ghost use Rattle.ic_jobs.specs.Events.{after_command};
 ghost use Rattle.ic_jobs.specs.Job.{JobParts, can_move};
+ghost use Rattle.ic_jobs.specs.Memory.{is_submit};
 ghost use Rattle.ic_jobs.specs.Table.{job_named, job_names};
 ghost use Rattle.ic_lines.specs.Answers.{out};
 ghost use Rattle.ic_lines.specs.Lines.{lines};
@@ -32,6 +37,7 @@ ghost use Rattle.ic_batch.specs.declared.fault.BatchFault.TheVariants.{Full, Ser
 ghost use Rattle.ic_batch.specs.Batch.{Brings, IsBatch, IsOnWay as IsBookOnWay};
 ghost use Rattle.ic_batch.specs.Calls.{events_in, events_of, CallsFew};
 ghost use Rattle.ic_batch.specs.declared.fault.Difference.{Difference};
+ghost use Rattle.ic_batch.specs.declared.fault.Difference.TheVariants.{Budget, Rules, Start};
 ghost use Rattle.ic_batch.specs.declared.fault.JobsCause.{JobsCause};
 ghost use Rattle.ic_batch.specs.declared.fault.JobsCause.TheVariants.{Refused, Text};
 ghost use Rattle.ic_batch.specs.declared.fault.JobsFault.TheVariants.{Line, Read as Unreadable};
@@ -39,7 +45,7 @@ ghost use Rattle.ic_batch.specs.declared.jobs.NewJob.{NewJob};
 ghost use Rattle.ic_batch.specs.Faults.{all_batch_faults, all_jobs_faults, batch_fault_number, jobs_fault_number, AreSame, Differs, Fails, HasAnother, HasNoRoom, IsLineAfter, IsRefused, Says, SaysOfLines, StopsAt, Succeeds};
 ghost use Rattle.ic_batch.specs.Jobs.{begun_by, names, submit_of, AreJobsOf};
 ghost use Rattle.ic_batch.specs.Served.{accepted, fetches, run_together};
-ghost use Rattle.ic_batch.specs.Way.{after, all_of, fetched_all, goes_on, AreOnWay, ComesTo, HaveEnded, IsIterate, IsOnWay, IsTextOf, IsUnderWay};
+ghost use Rattle.ic_batch.specs.Way.{after, all_of, fetched_all, goes_on, missing, AreOnWay, ComesTo, HaveEnded, IsOnWay, IsTextOf, IsUnderWay};
 
 use ic_book::Book;
 use ic_disk::Disk;
@@ -53,10 +59,14 @@ pub fn numbers_are_lasting()
         → map jobs_fault_number (all_jobs_faults line cause) ≡ 1 ∷ 2 ∷ 3 ∷ [] }
 {}
 
-/// A job that is on the way of a new one is an iterate of it, and has made no more rounds than it may.
+/// A job that is on the way of a new one has its name, its rules and its budget. Its configuration is the
+/// iterate of the round, after its rounds, on the one that the new job begins with. It has made no more
+/// rounds than it may.
 pub fn jobs_on_their_way_are_iterates()
     ensures iterate { (most : ℕ) (new : NewJob) (job : JobParts)
-        → IsOnWay most (begun_by new) job → IsIterate new job }
+        → IsOnWay most (begun_by new) job → (job.name ≡ new.name) × (job.rules ≡ new.system.rules)
+        × (job.budget ≡ new.budget)
+        × (job.config ≡ iterate new.system.rules.rules job.rounds new.system.config) }
     ensures few { (most : ℕ) (new : NewJob) (job : JobParts)
         → IsOnWay most (begun_by new) job → job.rounds ≤ most }
 {}
@@ -93,7 +103,8 @@ pub fn a_batch_that_goes_on_has_room()
 
 /// While a batch is under way each job of its disk is there under its name, on its way, and in its
 /// place. Once it has ended, each has come to its end. So no job is lost, whether a line names it or
-/// not.
+/// not. After them stand the first of those that were missing, on their ways, and in the end all of
+/// these, each at its end.
 pub fn a_batch_loses_no_job()
     ensures way { (most : ℕ) (jobs : List NewJob) (t u : List JobParts) (name : List ℕ)
         (from : JobParts) → IsUnderWay most jobs t u → job_named name t ≡ Some from
@@ -103,6 +114,12 @@ pub fn a_batch_loses_no_job()
         → (j : JobParts) × (job_named name u ≡ Some j) × ComesTo most from j }
     ensures places { (most : ℕ) (jobs : List NewJob) (t u : List JobParts)
         → IsUnderWay most jobs t u → take (length t) (job_names u) ≡ job_names t }
+    ensures come { (most : ℕ) (jobs : List NewJob) (t u : List JobParts)
+        → IsUnderWay most jobs t u → (front rest : List NewJob) × (missing t jobs ≡ front ++ rest)
+        × AllZip (λ new j. IsOnWay most (begun_by new) j) front (drop (length t) u) }
+    ensures all_come { (most : ℕ) (jobs : List NewJob) (t u : List JobParts)
+        → HaveEnded most jobs t u
+        → AllZip (λ new j. ComesTo most (begun_by new) j) (missing t jobs) (drop (length t) u) }
 {}
 
 /// In a table without jobs all jobs are on their way, and in one that has them as they began. They stay
@@ -134,6 +151,33 @@ pub fn jobs_on_their_way_are_not_taken()
         (is : Difference) → AreSame jobs t → ¬ HasAnother jobs t name is }
 {}
 
+/// Refusals are meant as they are told. A command is told as `Syntax` that submits no job, and any
+/// other as a table of the jobs before it refuses it. A job differs by its rules, else by its budget,
+/// else, before its first round, by its configuration. The first that differs is told, and jobs that are
+/// the same don't differ. There is no room if a table would have more than 32 jobs.
+pub fn refusals_are_meant_as_they_are_told()
+    ensures syntax { (jobs : List NewJob) (command : Command) (fault : TextFault)
+        → IsRefused jobs command (Text fault) → (fault ≡ Syntax) × (is_submit command ≡ false) }
+    ensures why { (jobs : List NewJob) (command : Command) (why : Refusal)
+        → IsRefused jobs command (Refused why)
+        → (after_command (map begun_by jobs) command).reply ≡ reply.Refused why }
+    ensures rules { (new : NewJob) (j : JobParts)
+        → Differs new j Rules ↔ (j.rules ≢ new.system.rules) }
+    ensures budget { (new : NewJob) (j : JobParts) → Differs new j Budget
+        ↔ ((j.rules ≡ new.system.rules) × (j.budget ≢ new.budget)) }
+    ensures start { (new : NewJob) (j : JobParts) → Differs new j Start
+        ↔ ((j.rules ≡ new.system.rules) × (j.budget ≡ new.budget) × (j.rounds ≡ 0)
+        × (j.config ≢ new.system.config)) }
+    ensures same { (before after : List NewJob) (new : NewJob) (t : List JobParts)
+        (job : JobParts) (is : Difference) → AreSame (before ++ new ∷ after) t
+        → job_named new.name t ≡ Some job → ¬ Differs new job is }
+    ensures another { (before after : List NewJob) (new : NewJob) (t : List JobParts)
+        (job : JobParts) (is : Difference) → AreSame before t → job_named new.name t ≡ Some job
+        → Differs new job is → HasAnother (before ++ new ∷ after) t new.name is }
+    ensures room { (jobs : List NewJob) (t : List JobParts) → HasNoRoom jobs t
+        ↔ (32 < length t + length (missing t jobs)) }
+{}
+
 /// Lines are the lines of jobs where each submits one or is blank, no two have one name, and they are no
 /// more than a table has.
 ///
@@ -158,7 +202,9 @@ pub fn batch_lines_are_taken()
 
 /// A batch that ends has brought its jobs to their ends, all is kept, and just the answers to fetches
 /// of them are written. Where the jobs that were there were on their way, these answers are the text of
-/// the jobs. However it ends, all are on their way after it, and in each table that a crash leaves.
+/// the jobs. However it ends, all are on their way after it, and in each table that a crash leaves. The
+/// table is under way from the one before, as is the one that was kept last and each that a crash
+/// leaves, but for the one that was kept before.
 pub fn a_batch_brings_its_jobs_to_their_ends<D: Disk>(old: &Book<D>, new: &Book<D>)
     ensures ended { (done : Unit {0}) (most : ℕ) (jobs : List NewJob) (before after : Option (List ℕ))
         → Brings (Ok done) most jobs old.now new.now before after
@@ -170,6 +216,13 @@ pub fn a_batch_brings_its_jobs_to_their_ends<D: Disk>(old: &Book<D>, new: &Book<
     ensures on_way { (result : Result (Unit {0}) BatchFault) (most : ℕ) (jobs : List NewJob)
         → IsBatch result most jobs old.now new.now → AreOnWay most jobs (table_of new.now)
         × AreOnWay most jobs (last_kept new.now) × Leaves old.now new.now (AreOnWay most jobs) }
+    ensures meanwhile { (result : Result (Unit {0}) BatchFault) (most : ℕ) (jobs : List NewJob)
+        (before after : Option (List ℕ)) → Brings result most jobs old.now new.now before after
+        → IsUnderWay most jobs (table_of old.now) (table_of new.now)
+        × ((last_kept new.now ≡ last_kept old.now)
+        ⊎ IsUnderWay most jobs (table_of old.now) (last_kept new.now))
+        × Leaves old.now new.now (λ u. (u ≡ last_kept old.now)
+        ⊎ IsUnderWay most jobs (table_of old.now) u) }
 {
     let _ = old;
     let _ = new;

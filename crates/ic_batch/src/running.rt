@@ -1,6 +1,6 @@
 //! Making rounds until no job goes on.
 
-ghost use Rattle.std.specs.Prelude.{◌≡◌, ◌≤◌, ◌<◌, ◌+◌, ◌*◌, ◌/◌, length, Some, IfErr, IfSome, IfNone, OnOk, true, false, slice_get};
+ghost use Rattle.std.specs.Prelude.{◌≡◌, ◌≤◌, ◌<◌, ◌+◌, ◌*◌, ◌/◌, length, drop, Some, IfErr, IfSome, IfNone, OnOk, true, false, slice_get};
 ghost use Rattle.std.specs.List.{AllByRecursion};
 ghost use Rattle.ic_jobs.specs.Job.{JobParts};
 ghost use Rattle.ic_book.specs.Book.{disk_of, is_broken, log_of, table_of};
@@ -29,22 +29,34 @@ fn goes_on(job: &Job, most: u64) -> bool
     matches!(job.state(), State::Running) && job.rounds() < most
 }
 
-/// The place of the first job that goes on.
-fn next_place(jobs: &[Job], most: u64) -> Option<usize>
+/// The place of the first job that goes on, from a place on.
+fn place_from(jobs: &[Job], from: usize, most: u64) -> Option<usize>
     ensures goes { IfSome result (λ place. (job : JobParts)
         × (slice_get jobs.now place ≡ Some job) × (goes_on most job ≡ true)) }
-    ensures none { IfNone result (AllByRecursion (λ job. goes_on most job ≡ false) jobs.now) }
+    ensures none { IfNone result
+        (AllByRecursion (λ job. goes_on most job ≡ false) (drop from jobs.now)) }
 {
-    for (place, job) in jobs.iter().enumerate() {
-        if goes_on(job, most) {
+    for place in from..jobs.len() {
+        if goes_on(&jobs[place], most) {
             return Some(place);
         }
     }
     None
 }
 
-/// Makes rounds of the jobs that go on, of one job after the other, and keeps them after each `every`
-/// of them. The gate is told of each.
+/// The place of the next job that goes on: the first one from a place on or, where there is none, the first of all.
+fn next_place(jobs: &[Job], from: usize, most: u64) -> Option<usize>
+    ensures goes { IfSome result (λ place. (job : JobParts)
+        × (slice_get jobs.now place ≡ Some job) × (goes_on most job ≡ true)) }
+    ensures none { IfNone result (AllByRecursion (λ job. goes_on most job ≡ false) jobs.now) }
+{
+    match place_from(jobs, from, most) {
+        Some(place) => Some(place),
+        None => place_from(jobs, 0, most),
+    }
+}
+
+/// Makes rounds of the jobs that go on, one of each in turn, and keeps them after each `every` of them. The gate is told of each.
 pub(crate) fn make_rounds<T: Threads + Wait + Copy + Send + 'static, D: Disk, G: Gate>(
     rt: &T,
     alloc: Global,
@@ -75,11 +87,14 @@ pub(crate) fn make_rounds<T: Threads + Wait + Copy + Send + 'static, D: Disk, G:
     ic_jobs::laws::other_jobs_stay();
     ic_jobs::laws::due_is_the_next_running_job();
     ic_jobs::laws::what_is_due_is_awaited();
+    makers.expect(u64::MAX);
     let mut made: u64 = 0;
+    let mut from = 0;
     loop {
-        let Some(place) = next_place(book.table().jobs(), most) else {
+        let Some(place) = next_place(book.table().jobs(), from, most) else {
             return Ok(());
         };
+        from = place.saturating_add(1);
         make_round(rt, alloc, book, place, workers, makers)?;
         gate.landed(count_running(book.table().jobs()));
         made = made.wrapping_add(1);

@@ -20,8 +20,9 @@ use Rattle.ic_book.specs.declared.book.Book.{Book}
 use Rattle.ic_book.specs.declared.limits.TheConstants.{MAX_ENTRIES}
 use Rattle.ic_book.specs.Book.{start_of, log_of, table_of, kept_of, keeper_of, disk_of, is_broken}
 use Rattle.ic_book.specs.Entries.{AddsCommand, command_entry, round_entry}
-use Rattle.ic_book.specs.Kept.{HoldsKeptOrAll, IsHistory, IsOnDisk, table_kept}
-use Rattle.ic_book.specs.Calls.{LeavesKeptOrAll}
+use Rattle.ic_book.specs.Kept.{IsHistory, IsOnDisk}
+use Rattle.ic_book.specs.Crashes.{LeavesKeptOrAll}
+use Rattle.ic_book.specs.Left.{table_kept, HoldsKeptOrAll}
 use Rattle.ic_book.specs.inner.Entering.{EntersRound}
 use Rattle.ic_book.proofs.HistoryLemmas
 use Rattle.ic_book.proofs.DiskLemmas
@@ -98,9 +99,9 @@ module _ {D : Type 0} {ghosts : Ghosts D} where
   round_comes book name reply result log table may is =
       let e = round_entry name reply in
       let what = HistoryLemmas.entered result e (log_of book) log (table_of book) table is.moved is.same_log is.same_table in
-      let same = HistoryLemmas.table_kept_entered (start_of book) (log_of book) log (table_of book) table (kept_of book) (is_broken book) e book.history may.0 may.1 (λ _. refl) refl what in
+      let same = HistoryLemmas.table_kept_entered (start_of book) (log_of book) log (table_of book) table (kept_of book) (is_broken book) e book.history may.0 may.1 (λ _. refl) what in
       record {
-        history = HistoryLemmas.round_entered (start_of book) (log_of book) log (table_of book) table (kept_of book) (is_broken book) e book.history may.0 may.1 (λ _. refl) refl what;
+        history = HistoryLemmas.round_entered (start_of book) (log_of book) log (table_of book) table (kept_of book) (is_broken book) e book.history may.0 may.1 (λ _. refl) what;
         on_disk = on_disk_still book log (kept_of book) may.0 same;
         crash = λ keeps made. DiskLemmas.kept_alone (ghosts.content (disk_of book)) (ghosts.image (disk_of book)) (start_of book) (log_of book) (kept_of book) (is_broken book)
             (book.on_disk keeps) may.0 made log same;
@@ -113,7 +114,7 @@ module _ {D : Type 0} {ghosts : Ghosts D} where
     pub same : table_kept (start_of book) log (kept_of book) ≡ last_kept book
     pub all : replay (start_of book) log ≡ table
     pub whole : (n : ℕ) → n ≡ length log → table_kept (start_of book) log n ≡ table
-    pub left : (now : Bool) → now ≡ true → IsHistory (start_of book) log table (kept_of book) now
+    pub left : (now : Bool) → IsHistory (start_of book) log table (kept_of book) now
     pub kept : (now : Bool) (n : ℕ) → n ≡ length log → IsTable table → IsHistory (start_of book) log table n now
 
   pub stands_here : (book : Book D ghosts) → Stands book (log_of book) (table_of book)
@@ -136,11 +137,15 @@ module _ {D : Type 0} {ghosts : Ghosts D} where
           same = HistoryLemmas.table_kept_after (start_of book) (log_of book) log (table_of book) table (kept_of book) (is_broken book) e book.history may.0 adds may.1 sent;
           all = HistoryLemmas.replayed_after (start_of book) (log_of book) log (table_of book) table (kept_of book) (is_broken book) e book.history may.0 adds may.1 sent;
           whole = HistoryLemmas.table_all_after (start_of book) (log_of book) log (table_of book) table (kept_of book) (is_broken book) e book.history may.0 adds may.1 sent;
-          left = HistoryLemmas.left_unkept (start_of book) (log_of book) log (table_of book) table (kept_of book) (is_broken book) e book.history may.0 adds may.1 sent;
+          left = HistoryLemmas.unkept_after (start_of book) (log_of book) log (table_of book) table (kept_of book) (is_broken book) e book.history may.0 adds may.1 sent;
           kept = HistoryLemmas.all_kept_after (start_of book) (log_of book) log (table_of book) table (kept_of book) (is_broken book) e book.history may.0 adds may.1 sent;
         }
 
-    -- until it is kept a crash leaves what was kept
+    -- until it is kept the disk has what was kept
+    pub unkept_on_disk : IsTrue (ghosts.keeps (disk_of book)) → IsOnDisk (ghosts.content (disk_of book)) (ghosts.image (disk_of book)) (start_of book) log (kept_of book) (is_broken book)
+    unkept_on_disk = on_disk_still book log (kept_of book) may.0 stands_added.same
+
+    -- and a crash leaves it
     pub still_added : EachOnMade book (HoldsKeptOrAll (start_of book) log (kept_of book))
     still_added keeps made = DiskLemmas.kept_alone (ghosts.content (disk_of book)) (ghosts.image (disk_of book)) (start_of book) (log_of book) (kept_of book) (is_broken book)
         (book.on_disk keeps) may.0 made log stands_added.same

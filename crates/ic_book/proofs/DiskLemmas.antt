@@ -12,7 +12,8 @@ use Rattle.ic_jobs.specs.History.{replay}
 use Rattle.ic_frames.specs.Fields.{IsMade}
 use Rattle.ic_slots.specs.Held.{HoldsTable, HoldsEitherTable, IsHeld, the_table}
 use Rattle.ic_slots.specs.lemmas.OneTable.{table_or_not}
-use Rattle.ic_book.specs.Kept.{IsOnDisk, HoldsKeptOrAll, table_kept}
+use Rattle.ic_book.specs.Kept.{IsOnDisk}
+use Rattle.ic_book.specs.Left.{HoldsKeptOrAll, table_kept}
 use Rattle.ic_book.specs.lemmas.OneProof.{HoldsTable-prop}
 
 -- ---- which of two tables a file holds

@@ -1,9 +1,8 @@
 -- Entries of a history, for laws.
-use Rattle.std.proofs.Common.{◌≡◌, ◌↔◌, ◌⊎◌, inl, inr, ◌∙◌, ℕ, ◌-◌, List, [], ◌∷◌, ◌++◌, Bool, true, false, Option, None, Some, length, take, drop, refl, sym, ap, subst, if◌then◌else◌, append_assoc}
+use Rattle.std.proofs.Common.{◌≡◌, ◌↔◌, ◌⊎◌, inl, inr, ◌∙◌, ℕ, List, [], ◌∷◌, ◌++◌, Bool, true, false, Option, None, Some, refl, sym, ap, subst, if◌then◌else◌}
 use Rattle.std.specs.Prelude.{IsTrue}
 use Rattle.std.specs.List.{AllByRecursion}
 use Rattle.std.specs.Option.{option_map, option_map_or}
-use Rattle.std.proofs.lemmas.List.{take-append-drop}
 use Rattle.ic_jobs.specs.declared.event.Entry.{Entry}
 use Rattle.ic_jobs.specs.declared.event.Event.{Event}
 use Rattle.ic_jobs.specs.declared.event.Event.TheVariants.{Command as by_command, Round}
@@ -17,7 +16,7 @@ use Rattle.ic_jobs.specs.Events.{Outcome, apply, after_round, outcome, where_run
 use Rattle.ic_jobs.specs.History.{replay, table_after, reply_to, IsLegal}
 use Rattle.ic_book.specs.Entries.{Adds, AreRounds, IsRoundEntry, RoundHasSenderZero, is_round}
 use Rattle.ic_book.specs.Kept.{IsHistory}
-use Rattle.ic_book.proofs.HistoryLemmas.{IsLegal-push, replay-push, but_last_push}
+use Rattle.ic_book.proofs.HistoryLemmas.{IsLegal-push, replay-push}
 
 -- ---- an entry at a place
 
@@ -86,22 +85,6 @@ round_at t log front back e name legal nobody is event =
 module _ (start : List JobParts) (log : List Entry) (table : List JobParts) (kept : ℕ) (broken : Bool) (is : IsHistory start log table kept broken) where
   pub round_anywhere : (front back : List Entry) (e : Entry) (name : List ℕ) → log ≡ front ++ e ∷ back → e.event ≡ Round name → IsRoundEntry e
   round_anywhere front back e name at event = round_at start log front back e name is.legal is.round_senders at event
-
-  round_after : (front back : List Entry) (e : Entry) → drop kept log ≡ front ++ e ∷ back → IsTrue (is_round e.event) → IsRoundEntry e
-  round_after front back e at round =
-      let n = named e.event round in
-      let place : log ≡ (take kept log ++ front) ++ e ∷ back =
-      sym (take-append-drop kept log) ∙ ap (λ (es : List Entry). take kept log ++ es) at ∙ sym (append_assoc (take kept log) front (e ∷ back)) in
-      round_anywhere (take kept log ++ front) back e n.0 place n.1
-
-  pub after_unbroken : broken ≡ false → (front back : List Entry) (e : Entry) → drop kept log ≡ front ++ e ∷ back → IsRoundEntry e
-  after_unbroken ready front back e at = round_after front back e at
-      (all_at (λ (x : Entry). IsTrue (is_round x.event)) front back e (subst AreRounds at (is.after.unbroken ready)))
-
-  pub after_broken : (front back : List Entry) (e last : Entry) → drop kept log ≡ (front ++ e ∷ back) ++ last ∷ [] → IsRoundEntry e
-  after_broken front back e last at =
-      let rounds : AreRounds (front ++ e ∷ back) = subst AreRounds (ap (λ (es : List Entry). take (length es - 1) es) at ∙ but_last_push (front ++ e ∷ back) last) is.after.but_last in
-      round_after front (back ++ last ∷ []) e (at ∙ append_assoc front (e ∷ back) (last ∷ [])) (all_at (λ (x : Entry). IsTrue (is_round x.event)) front back e rounds)
 
 -- ---- one entry more
 

@@ -1,8 +1,8 @@
 -- What a book keeps in memory, as its calls change it.
-use Rattle.std.proofs.Common.{◌↔◌, zero, suc, ◌≡◌, ℕ, ◌+◌, ◌-◌, ◌<◌, List, [], ◌∷◌, ◌++◌, ◌⊎◌, inl, inr, ⊎_elim, Bool, true, false, Option, Some, Result, Ok, IfOk, IsTrue, length, take, drop, refl, sym, ◌∙◌, ap, subst, arith}
+use Rattle.std.proofs.Common.{◌≡◌, ℕ, ◌+◌, ◌<◌, List, [], ◌∷◌, ◌++◌, ◌⊎◌, inl, inr, ⊎_elim, Bool, true, false, Option, Some, Result, Ok, IfOk, length, take, refl, sym, ◌∙◌, ap, subst, arith}
 use Rattle.std.specs.List.{AllByRecursion}
 use Rattle.std.specs.Option.{option_map, option_map_or}
-use Rattle.std.proofs.lemmas.List.{length_push, take_all, drop_all, take-append-le, drop-append-le}
+use Rattle.std.proofs.lemmas.List.{length_push, take_all, take-append-le}
 use Rattle.ic_jobs.specs.declared.command.Command.{Command}
 use Rattle.ic_jobs.specs.declared.event.Entry.{Entry}
 use Rattle.ic_jobs.specs.declared.landed.Landed.{Landed}
@@ -13,9 +13,10 @@ use Rattle.ic_jobs.specs.Table.{IsTable}
 use Rattle.ic_jobs.specs.Events.{Outcome, apply, outcome}
 use Rattle.ic_jobs.specs.History.{replay, table_after, reply_to, IsLegal}
 use Rattle.ic_book.specs.declared.limits.TheConstants.{MAX_ENTRIES}
-use Rattle.ic_book.specs.Entries.{Adds, AreRounds, RoundHasSenderZero, command_entry, is_round}
+use Rattle.ic_book.specs.Entries.{Adds, RoundHasSenderZero, command_entry}
 use Rattle.ic_book.specs.inner.Entering.{IsStale}
-use Rattle.ic_book.specs.Kept.{IsHistory, MayBeUnkept, table_kept}
+use Rattle.ic_book.specs.Kept.{IsHistory}
+use Rattle.ic_book.specs.Left.{table_kept}
 
 all_push : {X : Type 0} (P : X → Type 0) (xs : List X) (x : X) → AllByRecursion P xs → P x → AllByRecursion P (xs ++ x ∷ [])
 all_push P [] x all here = (here, tt)
@@ -28,41 +29,6 @@ replay-push t (x ∷ es) e = replay-push (table_after t x.event) es e
 pub IsLegal-push : (t : List JobParts) (es : List Entry) (e : Entry) → IsLegal t es → reply_to (replay t es) e.event ≡ Some e.reply → IsLegal t (es ++ e ∷ [])
 IsLegal-push t [] e legal here = (here, tt)
 IsLegal-push t (x ∷ es) e legal here = (legal.0, IsLegal-push (table_after t x.event) es e legal.1 here)
-
--- all but the last of a list with one more
-pub but_last_push : {X : Type 0} (xs : List X) (x : X) → take (length (xs ++ x ∷ []) - 1) (xs ++ x ∷ []) ≡ xs
-but_last_push {X} xs x =
-    let short : length (xs ++ x ∷ []) - 1 ≡ length xs = omega (arith, length_push xs x) in
-    ap (λ (n : ℕ). take n (xs ++ x ∷ [])) short ∙ take-append-le (length xs) xs (x ∷ []) (omega arith) ∙ take_all (length xs) xs (omega arith)
-
-none_unkept : (broken : Bool) → MayBeUnkept broken []
-none_unkept broken = record { unbroken = λ _. tt; but_last = tt }
-
--- nothing follows where all is kept
-all_after : (log : List Entry) (broken : Bool) → MayBeUnkept broken (drop (length log) log)
-all_after log broken = subst (λ (es : List Entry). MayBeUnkept broken es) (sym (drop_all (length log) log (omega arith))) (none_unkept broken)
-
--- rounds alone, where nothing is broken
-pub unkept_unbroken : (es : List Entry) → MayBeUnkept false es ↔ AreRounds es
-unkept_unbroken es = (λ may. may.unbroken refl, λ rounds. record { unbroken = λ _. rounds; but_last = rounds_but_last es rounds })
-  where
-    all_taken : (n : ℕ) (xs : List Entry) → AreRounds xs → AreRounds (take n xs)
-    all_taken zero xs all = tt
-    all_taken (suc n) [] all = tt
-    all_taken (suc n) (x ∷ xs) all = (all.0, all_taken n xs all.1)
-
-    rounds_but_last : (xs : List Entry) → AreRounds xs → AreRounds (take (length xs - 1) xs)
-    rounds_but_last xs all = all_taken (length xs - 1) xs all
-
--- one last entry may be of any kind, where something is
-pub unkept_broken : (es : List Entry) (e : Entry) → MayBeUnkept true (es ++ e ∷ []) ↔ AreRounds es
-unkept_broken es e = (
-  λ may. subst AreRounds (but_last_push es e) may.but_last,
-  λ rounds. record {
-    unbroken = λ whole. let never : true ≡ false = whole in cc;
-    but_last = subst AreRounds (sym (but_last_push es e)) rounds;
-  },
-)
 
 -- ---- one entry more
 
@@ -85,9 +51,6 @@ module _ (start : List JobParts) (log new_log : List Entry) (table new : List Jo
   pub taken_after : take kept new_log ≡ take kept log
   taken_after = ap (take kept) adds.entry ∙ take-append-le kept log (e ∷ []) is.within
 
-  dropped_after : drop kept new_log ≡ drop kept log ++ e ∷ []
-  dropped_after = ap (drop kept) adds.entry ∙ drop-append-le kept log (e ∷ []) is.within
-
   pub table_kept_after : table_kept start new_log kept ≡ table_kept start log kept
   table_kept_after = ap (replay start) taken_after
 
@@ -97,37 +60,16 @@ module _ (start : List JobParts) (log new_log : List Entry) (table new : List Jo
   sound_after : IsTable (table_kept start new_log kept)
   sound_after = subst IsTable (sym table_kept_after) is.sound
 
-  rounds : AreRounds (drop kept log)
-  rounds = is.after.unbroken ready
-
-  but_last_after : AreRounds (take (length (drop kept new_log) - 1) (drop kept new_log))
-  but_last_after = subst (λ (es : List Entry). AreRounds (take (length es - 1) es)) (sym dropped_after)
-      (subst AreRounds (sym (but_last_push (drop kept log) e)) rounds)
-
-  unkept_after : (now : Bool) → MayBeUnkept now (drop kept new_log) → IsHistory start new_log new kept now
-  unkept_after now after = record {
+  -- any entry, which isn't kept
+  pub unkept_after : (now : Bool) → IsHistory start new_log new kept now
+  unkept_after now = record {
     legal = legal_after;
     replayed = replayed_after;
     short = omega (arith, room, length_after);
     within = omega (arith, is.within, length_after);
-    after = after;
     round_senders = nobody_after;
     sound = sound_after;
   }
-
-  -- a round, which isn't kept
-  pub round_added : (now : Bool) → IsTrue (is_round e.event) → IsHistory start new_log new kept now
-  round_added now round = unkept_after now (record {
-    unbroken = λ _. subst AreRounds (sym dropped_after) (all_push (λ (x : Entry). IsTrue (is_round x.event)) (drop kept log) e rounds round);
-    but_last = but_last_after;
-  })
-
-  -- any entry, where the book is broken now
-  pub left_unkept : (now : Bool) → now ≡ true → IsHistory start new_log new kept now
-  left_unkept now broke = unkept_after now (record {
-    unbroken = λ whole. let never : true ≡ false = sym broke ∙ whole in cc;
-    but_last = but_last_after;
-  })
 
   pub table_all_after : (n : ℕ) → n ≡ length new_log → table_kept start new_log n ≡ new
   table_all_after n count = ap (table_kept start new_log) count ∙ ap (replay start) (take_all (length new_log) new_log (omega arith)) ∙ replayed_after
@@ -139,7 +81,6 @@ module _ (start : List JobParts) (log new_log : List Entry) (table new : List Jo
     replayed = replayed_after;
     short = omega (arith, room, length_after);
     within = omega arith;
-    after = subst (λ (k : ℕ). MayBeUnkept now (drop k new_log)) (sym count) (all_after new_log now);
     round_senders = nobody_after;
     sound = subst IsTable (sym (table_all_after n count)) sound;
   }
@@ -172,11 +113,11 @@ entered (Ok Moved) e log new_log table new moved same_log same_table = inr (move
 entered _ e log new_log table new moved same_log same_table = inl (same_log tt, same_table tt)
 
 module _ (start : List JobParts) (log new_log : List Entry) (table new : List JobParts) (kept : ℕ) (broken : Bool) (e : Entry)
-    (is : IsHistory start log table kept broken) (ready : broken ≡ false) (room : length log < MAX_ENTRIES) (nobody : RoundHasSenderZero e) (round : IsTrue (is_round e.event)) where
+    (is : IsHistory start log table kept broken) (ready : broken ≡ false) (room : length log < MAX_ENTRIES) (nobody : RoundHasSenderZero e) where
   pub round_entered : Entered e log new_log table new → IsHistory start new_log new kept broken
   round_entered = ⊎_elim
       (λ same. subst (λ (t : List JobParts). IsHistory start new_log t kept broken) (sym same.1) (subst (λ (es : List Entry). IsHistory start es table kept broken) (sym same.0) is))
-      (λ adds. round_added start log new_log table new kept broken e is ready adds room nobody broken round)
+      (λ adds. unkept_after start log new_log table new kept broken e is ready adds room nobody broken)
 
   pub table_kept_entered : Entered e log new_log table new → table_kept start new_log kept ≡ table_kept start log kept
   table_kept_entered = ⊎_elim
@@ -196,19 +137,17 @@ module _ (start : List JobParts) (log : List Entry) (table : List JobParts) (kep
     replayed = is.replayed;
     short = is.short;
     within = omega arith;
-    after = all_after log now;
     round_senders = is.round_senders;
     sound = subst IsTable (sym table_all) sound;
   }
 
   -- the book broke
-  pub broke_now : (now : Bool) → now ≡ true → IsHistory start log table kept now
-  broke_now now broke = record {
+  pub broke_now : (now : Bool) → IsHistory start log table kept now
+  broke_now now = record {
     legal = is.legal;
     replayed = is.replayed;
     short = is.short;
     within = is.within;
-    after = record { unbroken = λ whole. let never : true ≡ false = sym broke ∙ whole in cc; but_last = is.after.but_last };
     round_senders = is.round_senders;
     sound = is.sound;
   }

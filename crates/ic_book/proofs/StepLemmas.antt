@@ -13,11 +13,11 @@ use Rattle.ic_book.specs.declared.book.Book.{Book}
 use Rattle.ic_book.specs.declared.fault.BookFault.{BookFault}
 use Rattle.ic_book.specs.declared.fault.BookFault.TheVariants.{Broken, LogFull, Device}
 use Rattle.ic_book.specs.Book.{start_of, log_of, table_of, kept_of, is_broken}
-use Rattle.ic_book.specs.Calls.{LeavesKeptOrAll}
+use Rattle.ic_book.specs.Crashes.{LeavesKeptOrAll}
 use Rattle.ic_book.specs.Entries.{AddsCommand, command_entry, round_entry}
 use Rattle.ic_book.specs.inner.Entering.{EntersRound}
 use Rattle.ic_book.specs.Moves.{keeps, stays, round_move, keep_move}
-use Rattle.ic_book.specs.Server.{up, IsCall, Step, StepsByCommand}
+use Rattle.ic_book.specs.Server.{up, IsCall, Step, StepsByCommand, StepsByTake}
 use Rattle.ic_book.proofs.BookLemmas.{unchanged}
 
 err-not-ok : (reply : Reply) → ¬ IsErr {T = Reply} {E = BookFault} (Ok reply)
@@ -136,6 +136,28 @@ module _ {D : Type 0} {ghosts : Ghosts D} where
         failed = λ device. absurd (device-not-ok reply device);
         refused = λ err. absurd (err-not-ok reply err);
       }
+
+      -- it is taken, and not kept yet
+      pub command_taken : kept_of new ≡ kept_of old → is_broken old ≡ false → is_broken new ≡ false → StepsByTake who command (Ok reply) old new
+      command_taken kept was whole = record {
+        taken = inl (record {
+          page = (record { start = start; adds = adds }, kept, whole);
+          broken = λ broke. absurd (both_ways (is_broken old) was broke);
+          crash = with_entry;
+        });
+        refused = λ err. absurd (err-not-ok reply err);
+      }
+
+      -- it is answered as it stands
+      pub command_idle : kept_of new ≡ length (log_of new) → is_broken old ≡ false → is_broken new ≡ false → StepsByTake who command (Ok reply) old new
+      command_idle kept was whole = record {
+        taken = inr (command_answered kept was whole).answered;
+        refused = λ err. absurd (err-not-ok reply err);
+      }
+
+    -- it isn't taken
+    pub take_refused : (result : Result Reply BookFault) (fault : BookFault) → result ≡ Err fault → IsCall stays old new → StepsByTake who command result old new
+    take_refused result fault is done = subst (λ (r : Result Reply BookFault). StepsByTake who command r old new) (sym is) (record { taken = tt; refused = λ _. done })
 
 -- the book is broken, or its log is full
 pub full_or_broken : (fault : BookFault) → (fault ≢ Broken → fault ≡ LogFull) → ¬ (fault ≡ Device)

@@ -1,9 +1,8 @@
--- What the calls of a book leave: where a crash comes, where a call is refused, where a round comes
--- and where all is kept. This project's choice.
-use Rattle.std.specs.Prelude.{◌≡◌, ◌≢◌, ◌↔◌, ◌+◌, ◌-◌, ◌^◌, ◌<◌, ◌≤◌, List, true, false, length, Result, IsTrue, IsErr, IsErrOf, IfOk, IfErr, OnOk, OnErr}
+-- What the calls of a book leave: where a call is refused, where a round comes and where all is kept.
+-- This project's choice.
+use Rattle.std.specs.Prelude.{◌≡◌, ◌≢◌, ◌↔◌, ◌+◌, ◌-◌, ◌^◌, ◌<◌, ◌≤◌, true, false, length, Result, IsTrue, IsErr, IsErrOf, IfOk, IfErr, OnOk, OnErr}
 use Rattle.ic_disk.specs.declared.disk.Disk.{Ghosts}
 use Rattle.ic_disk.specs.Images.{Within}
-use Rattle.ic_disk.specs.Time.{LeavesOnly}
 use Rattle.ic_jobs.specs.declared.event.Entry.{Entry}
 use Rattle.ic_jobs.specs.declared.landed.Landed.{Landed}
 use Rattle.ic_jobs.specs.declared.landed.Landed.TheVariants.{Moved, Stale}
@@ -15,22 +14,7 @@ use Rattle.ic_book.specs.declared.fault.BookFault.TheVariants.{Broken, LogFull, 
 use Rattle.ic_book.specs.declared.limits.TheConstants.{MAX_ENTRIES}
 use Rattle.ic_book.specs.Book.{start_of, log_of, table_of, kept_of, keeper_of, disk_of, is_broken, number_of, IsUnchanged}
 use Rattle.ic_book.specs.Entries.{Adds}
-use Rattle.ic_book.specs.Kept.{HoldsKeptOrAll}
 use Rattle.ic_book.specs.Refusals.{CountsBook}
-
--- ---- a crash
-
--- The disk keeps the model where it did, and a made disk stays made. On a made one a crash at any
--- moment leaves the table that was kept, or the one after all entries of this log.
-pub record LeavesKeptOrAll {D : Type 0} {ghosts : Ghosts D} (log : List Entry)
-    (old new : Book D ghosts) : Type 0 where
-  pub keeps : ghosts.keeps (disk_of new) ≡ ghosts.keeps (disk_of old)
-  pub made : IsTrue (ghosts.keeps (disk_of old)) → Within (ghosts.image (disk_of old)) IsMade
-      → Within (ghosts.image (disk_of new)) IsMade
-  pub any_moment : IsTrue (ghosts.keeps (disk_of old))
-      → Within (ghosts.image (disk_of old)) IsMade
-      → LeavesOnly ghosts.clock ghosts.left (disk_of old) (disk_of new)
-      (HoldsKeptOrAll (start_of old) log (kept_of old))
 
 -- ---- refusals
 

@@ -1,5 +1,5 @@
 -- What a book keeps: its history in memory, and a table on its disk. This project's choice.
-use Rattle.std.specs.Prelude.{◌≡◌, ℕ, ◌-◌, ◌≤◌, List, Bool, false, length, take, drop}
+use Rattle.std.specs.Prelude.{◌≡◌, ℕ, ◌≤◌, List, Bool, false, length}
 use Rattle.std.specs.List.{AllByRecursion}
 use Rattle.ic_disk.specs.Images.{Within}
 use Rattle.ic_jobs.specs.declared.event.Entry.{Entry}
@@ -7,25 +7,10 @@ use Rattle.ic_jobs.specs.Job.{JobParts}
 use Rattle.ic_jobs.specs.Table.{IsTable}
 use Rattle.ic_jobs.specs.History.{replay, IsLegal}
 use Rattle.ic_frames.specs.Fields.{IsMade}
-use Rattle.ic_slots.specs.Held.{HoldsEitherTable, IsHeld, the_table}
+use Rattle.ic_slots.specs.Held.{IsHeld, the_table}
 use Rattle.ic_book.specs.declared.limits.TheConstants.{MAX_ENTRIES}
-use Rattle.ic_book.specs.Entries.{AreRounds, RoundHasSenderZero}
-
--- the table after the first so many entries
-abbrev pub table_kept : (start : List JobParts) (log : List Entry) (kept : ℕ) → List JobParts
-table_kept start log kept = replay start (take kept log)
-
--- a made file that holds the table after the first so many entries, or after all
-abbrev pub HoldsKeptOrAll : (start : List JobParts) (log : List Entry) (kept : ℕ)
-    (file : List ℕ) → Type 0
-HoldsKeptOrAll start log kept file =
-    HoldsEitherTable (table_kept start log kept) (replay start log) file
-
--- Entries that may follow those that are kept: rounds, and where the book is broken one last entry
--- of any kind.
-pub record MayBeUnkept (broken : Bool) (es : List Entry) : Type 0 where
-  pub unbroken : broken ≡ false → AreRounds es
-  pub but_last : AreRounds (take (length es - 1) es)
+use Rattle.ic_book.specs.Left.{table_kept, HoldsKeptOrAll}
+use Rattle.ic_book.specs.Entries.{RoundHasSenderZero}
 
 -- What a book keeps in memory. Replaying the log on the opening table gives the table and each
 -- reply.
@@ -35,7 +20,6 @@ pub record IsHistory (start : List JobParts) (log : List Entry) (table : List Jo
   pub replayed : replay start log ≡ table
   pub short : length log ≤ MAX_ENTRIES
   pub within : kept ≤ length log
-  pub after : MayBeUnkept broken (drop kept log)
   pub round_senders : AllByRecursion RoundHasSenderZero log
   pub sound : IsTable (table_kept start log kept)
 

@@ -1,4 +1,6 @@
 pub mod Lives
+pub mod Crashes
+pub mod Left
 pub mod Kept
 pub mod Entries
 pub mod Refusals

@@ -12,6 +12,7 @@ use Rattle.ic_book.specs.Entries.{command_entry, round_entry}
 -- One move of a server:
 -- - the disk is opened, or the opening is refused;
 -- - a command is answered, or the disk fails at it, and nobody is told the reply;
+-- - a command is taken, and what it is answered isn't told before a later move keeps it;
 -- - a round is landed, or its job is halted;
 -- - all that has come is kept, as by a keep or for a new page;
 -- - nothing comes to the history, as at a stale round, a refusal, a look, or a keep at which the
@@ -23,6 +24,7 @@ pub data Move : Type 0 where
   refuses : OpenCause → Move
   answers : (who : ℕ) (command : Command) (reply : Reply) → Move
   fails : (who : ℕ) (command : Command) (reply : Reply) → Move
+  takes : (who : ℕ) (command : Command) (reply : Reply) → Move
   rounds : (name : List ℕ) (reply : Reply) → Move
   keeps : Move
   stays : Move
@@ -35,6 +37,7 @@ brings opens = []
 brings (refuses cause) = []
 brings (answers who command reply) = command_entry who command reply ∷ []
 brings (fails who command reply) = command_entry who command reply ∷ []
+brings (takes who command reply) = command_entry who command reply ∷ []
 brings (rounds name reply) = round_entry name reply ∷ []
 brings keeps = []
 brings stays = []

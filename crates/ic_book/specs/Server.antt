@@ -8,6 +8,7 @@ use Rattle.ic_jobs.specs.declared.event.Entry.{Entry}
 use Rattle.ic_jobs.specs.declared.reply.Reply.{Reply}
 use Rattle.ic_frames.specs.declared.faults.OpenCause.{OpenCause}
 use Rattle.ic_frames.specs.declared.faults.OpenFault.{OpenFault}
+use Rattle.ic_frames.specs.Faults.{CountsOpen}
 use Rattle.ic_frames.specs.Fields.{IsMade}
 use Rattle.ic_frames.specs.Opening.{LeavesAsFound}
 use Rattle.ic_slots.specs.Held.{HoldsTable, IsHeld, the_table}
@@ -16,10 +17,10 @@ use Rattle.ic_book.specs.declared.book.Book.{Book}
 use Rattle.ic_book.specs.declared.fault.BookFault.{BookFault}
 use Rattle.ic_book.specs.declared.fault.BookFault.TheVariants.{Device}
 use Rattle.ic_book.specs.Book.{start_of, log_of, table_of, kept_of, disk_of, is_broken}
-use Rattle.ic_book.specs.Calls.{LeavesKeptOrAll}
+use Rattle.ic_book.specs.Crashes.{LeavesKeptOrAll}
+use Rattle.ic_book.specs.Left.{HoldsKeptOrAll}
 use Rattle.ic_book.specs.Entries.{Adds, command_entry, round_entry}
-use Rattle.ic_book.specs.Kept.{HoldsKeptOrAll}
-use Rattle.ic_book.specs.Moves.{Move, opens, refuses, answers, fails, rounds, keeps, stays, closes, stops, brings}
+use Rattle.ic_book.specs.Moves.{Move, opens, refuses, answers, fails, takes, rounds, keeps, stays, closes, stops, brings}
 
 -- A server is down, and this disk will be found, or it is up over a book.
 pub data Server {D : Type 0} (ghosts : Ghosts D) : Type 0 where
@@ -61,6 +62,9 @@ MakesOfPage (answers who command reply) old new =
 MakesOfPage (fails who command reply) old new =
     GoesOn (command_entry who command reply) old new × (kept_of new ≡ kept_of old)
     × (is_broken old ≡ false) × (is_broken new ≡ true)
+MakesOfPage (takes who command reply) old new =
+    GoesOn (command_entry who command reply) old new × (kept_of new ≡ kept_of old)
+    × (is_broken new ≡ false)
 MakesOfPage (rounds name reply) old new =
     GoesOn (round_entry name reply) old new × (kept_of new ≡ kept_of old)
 MakesOfPage keeps old new =
@@ -90,12 +94,14 @@ pub record Opens {D : Type 0} {ghosts : Ghosts D} (disk : D) (book : Book D ghos
   pub held : IsTrue (ghosts.keeps disk) → IsHeld (the_table (start_of book)) (ghosts.content disk)
   pub log : log_of book ≡ []
 
--- One that is refused says what the disk holds, and reads give what they gave.
+-- One that is refused says what the disk holds, and reads give what they gave. A failure of the disk is
+-- counted exactly where it is the cause.
 pub record Refuses {D : Type 0} (ghosts : Ghosts D) (why : OpenCause)
     (disk after : D) : Type 0 where
   pub leaves : LeavesAsFound {T = Book D ghosts} ghosts.keeps ghosts.content ghosts.image
       ghosts.clock ghosts.left (Err why) disk after
   pub says : IsTrue (ghosts.keeps disk) → Says why (ghosts.content disk)
+  pub counted : CountsOpen {T = Unit {0}} (Err why) (ghosts.failures disk) (ghosts.failures after)
 
 -- The disk is handed out. On a made one a crash now leaves the table that was kept, or the one
 -- after all entries.
@@ -159,3 +165,11 @@ pub record StepsByCommand {D : Type 0} {ghosts : Ghosts D} (who : ℕ) (command 
   pub failed : IsErrOf result Device
       → (reply : Reply) × Step (fails who command reply) (up old) (up new)
   pub refused : IsErr result → ¬ IsErrOf result Device → Step stays (up old) (up new)
+
+-- A command is taken and not kept yet; or it is answered as it stands, where nothing is to be kept.
+-- Otherwise nothing comes to the history.
+pub record StepsByTake {D : Type 0} {ghosts : Ghosts D} (who : ℕ) (command : Command)
+    (result : Result Reply BookFault) (old new : Book D ghosts) : Type 0 where
+  pub taken : IfOk result (λ reply. Step (takes who command reply) (up old) (up new)
+      ⊎ Step (answers who command reply) (up old) (up new))
+  pub refused : IsErr result → Step stays (up old) (up new)

@@ -6,7 +6,8 @@ ghost use Rattle.ic_disk.specs.Images.{Within};
 ghost use Rattle.ic_frames.specs.Fields.{IsMade};
 ghost use Rattle.ic_frames.specs.Opened.{IsOnNewest};
 ghost use Rattle.ic_slots.specs.Keeper as keeper_parts;
-ghost use Rattle.ic_book.specs.Kept.{HoldsKeptOrAll, IsHistory, IsOnDisk};
+ghost use Rattle.ic_book.specs.Kept.{IsHistory, IsOnDisk};
+ghost use Rattle.ic_book.specs.Left.{HoldsKeptOrAll};
 ghost use Rattle.ic_book.specs.lemmas.OneProof.{IsHistory-prop, IsOnDisk-prop, IsOnNewest-prop};
 
 mod awaited;
@@ -19,6 +20,7 @@ mod keep;
 mod land;
 mod new_page;
 mod open;
+mod take;
 
 use ic_disk::Disk;
 use ic_jobs::{Entry, Table};
@@ -99,8 +101,7 @@ impl<D: Disk> Book<D> {
 
     /// What the type of a book says. It reads nothing.
     pub fn facts(&self)
-        // Replaying the log on the opening table gives the table and each reply. What follows the
-        // kept entries is rounds, and one last command where the book is broken.
+        // Replaying the log on the opening table gives the table and each reply.
         ensures history { IsHistory (start_of self.now) (log_of self.now) (table_of self.now)
             (kept_of self.now) (is_broken self.now) }
 

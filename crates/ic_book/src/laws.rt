@@ -1,6 +1,6 @@
 //! Laws of the definitions that the contracts of this crate cite.
 
-ghost use Rattle.std.specs.Prelude.{◌≡◌, ◌⊎◌, ◌↔◌, ◌+◌, ◌-◌, ◌^◌, ℕ, List, [], ◌∷◌, ◌++◌, Bool, true, false, Some, Result, Err, IsErrOf, Contains, map, drop};
+ghost use Rattle.std.specs.Prelude.{◌≡◌, ◌⊎◌, ◌↔◌, ◌+◌, ◌-◌, ◌^◌, ℕ, List, [], ◌∷◌, ◌++◌, Bool, true, Some, Result, Err, IsErrOf, Contains, map};
 ghost use Rattle.ic_jobs.specs.declared.command.Command.{Command};
 ghost use Rattle.ic_jobs.specs.declared.event.Entry.{Entry};
 ghost use Rattle.ic_jobs.specs.declared.event.Event.TheVariants.{Command as by_command, Round};
@@ -16,7 +16,7 @@ ghost use Rattle.ic_book.specs.declared.limits.TheConstants.{MAX_ENTRIES};
 ghost use Rattle.ic_book.specs.declared.fault.BookFault.{BookFault};
 ghost use Rattle.ic_book.specs.declared.fault.BookFault.TheVariants.{Device};
 ghost use Rattle.ic_book.specs.Entries.{AddsCommand, AddsRound, AreRounds, IsRoundEntry, RoundHasSenderZero, leaves_table};
-ghost use Rattle.ic_book.specs.Kept.{IsHistory, MayBeUnkept};
+ghost use Rattle.ic_book.specs.Kept.{IsHistory};
 ghost use Rattle.ic_book.specs.Refusals.{CountsBook, all_book_faults, fault_number};
 ghost use Rattle.ic_book.specs.Book.{start_of, log_of, table_of, kept_of, keeper_of, disk_of, IsUnchanged};
 
@@ -67,28 +67,16 @@ pub fn an_entry_is_added()
 {}
 
 /// Each entry of a book that is of a round was sent by nobody, and answered by what became of its
-/// job. What follows the kept entries is such entries, and one last entry of any kind where a call
-/// to the disk has failed.
-pub fn rounds_follow_what_is_kept()
-    ensures unbroken { (start : List JobParts) (log : List Entry) (table : List JobParts)
-        (kept : ℕ) (front back : List Entry) (e : Entry) → IsHistory start log table kept false
-        → drop kept log ≡ front ++ e ∷ back → IsRoundEntry e }
-    ensures broken { (start : List JobParts) (log : List Entry) (table : List JobParts)
-        (kept : ℕ) (front back : List Entry) (e last : Entry)
-        → IsHistory start log table kept true
-        → drop kept log ≡ (front ++ e ∷ back) ++ last ∷ [] → IsRoundEntry e }
-    ensures anywhere { (start : List JobParts) (log : List Entry) (table : List JobParts)
+/// job.
+pub fn rounds_stand_so()
+    ensures { (start : List JobParts) (log : List Entry) (table : List JobParts)
         (kept : ℕ) (broken : Bool) (front back : List Entry) (e : Entry) (name : List ℕ)
         → IsHistory start log table kept broken → log ≡ front ++ e ∷ back
         → e.event ≡ Round name → IsRoundEntry e }
 {}
 
-/// What the words on entries after `kept` come to: rounds alone, or one last entry of any kind
-/// after them, and rounds that are sent by nobody.
+/// What the words on entries of rounds come to: each is of a round, and was sent by nobody.
 pub fn rounds_are_told_so()
-    ensures unbroken { (es : List Entry) → MayBeUnkept false es ↔ AreRounds es }
-    ensures broken { (es : List Entry) (e : Entry)
-        → MayBeUnkept true (es ++ e ∷ []) ↔ AreRounds es }
     ensures rounds { (es : List Entry) → AreRounds es
         ↔ ((front back : List Entry) (e : Entry) → es ≡ front ++ e ∷ back
         → (name : List ℕ) × (e.event ≡ Round name)) }

@@ -1,10 +1,7 @@
-pub mod Rounds
 pub mod Reductions
-pub mod Rows
+pub mod RowLemmas
 pub mod Symbols
-pub mod Printed
-pub mod Answered
 pub mod Active
 pub mod Interactions
-pub mod Greatest
-pub mod OneAnswer
+pub mod Showing
+pub mod TracedLemmas

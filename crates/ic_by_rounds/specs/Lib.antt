@@ -1,9 +1,6 @@
-pub mod Reducing
 pub use Rattle.ic_streams.specs.Stuck
-pub mod Reductions
 pub mod Tracing
-pub mod Tables
-pub mod Objects
-pub mod Pictures
-pub mod Traces
 pub mod Interacting
+pub mod Tables
+pub mod Traces
+pub mod inner

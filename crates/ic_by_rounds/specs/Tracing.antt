@@ -1,12 +1,10 @@
 -- What each round of a reduction does (this project's choice).
-use Rattle.std.specs.Prelude.{◌≡◌, ℕ, zero, suc, ◌+◌, List, [], ◌∷◌, ◌++◌, length, count_by, is_some}
+use Rattle.std.specs.Prelude.{ℕ, zero, suc, ◌+◌, List, [], ◌∷◌, ◌++◌, length, count_by, is_some}
 use Rattle.ic_term.specs.Configuration.{Configuration, configuration_names, configuration_nodes}
 use Rattle.ic_rules.specs.Rule.{Rule}
 use Rattle.ic_round.specs.Firing.{active_pair}
 use Rattle.ic_round.specs.Rounds.{iterate}
-use Rattle.ic_by_rounds.specs.Reducing.{RoundsEnd}
 use Rattle.ic_by_rounds.specs.declared.row.Row.{Row}
-use Rattle.ic_by_rounds.specs.declared.ended.Ended.{Ended}
 
 -- how many equations are active, which is how many a round fires
 abbrev pub active_count : List Rule → Configuration → ℕ
@@ -30,10 +28,3 @@ row_after rs c n = row_between rs (n + 1) (iterate rs n c) (iterate rs (suc n) c
 abbrev pub rows_of : List Rule → Configuration → ℕ → List Row
 rows_of rs c zero = []
 rows_of rs c (suc n) = rows_of rs c n ++ row_after rs c n ∷ []
-
--- the rows of the rounds that are made of a configuration, at most so many, and how they ended
-pub record AreRows (rs : List Rule) (c : Configuration) (most : ℕ) (rows : List Row)
-    (ended : Ended) : Type 0 where
-  pub rounds : ℕ
-  pub ends : RoundsEnd rs c most rounds ended
-  pub each : rows ≡ rows_of rs c rounds

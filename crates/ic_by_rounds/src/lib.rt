@@ -1,33 +1,23 @@
-//! What the program does for whoever looks at nets, except for its own input and output.
+//! What rounds of a net do, told as they come.
 //!
-//! `reduce` makes rounds of a configuration until no step is possible, and `reduce_stream` does so of the system that a
-//! reader gives; a `Maker` makes the rounds, by one thread or by several. `trace` tells of each round how many
-//! equations it fires and what there is after it, and `trace_stream` writes that as a table, a picture or objects of JSON.
-//! `stuck_text` tells the pair that is stuck where no step is possible.
+//! `trace_stream` makes rounds of the system that a reader gives, in place, and writes how many equations each of them fires
+//! and what there is after it, as a table, a picture or objects of JSON. `summary_line` and `summary_object` tell what all of
+//! them did. `stuck_text` tells the pair that is stuck where no step is possible, and `circle_text` the circle.
 #![tactic(auto)]
 
-mod ended;
+mod amounts;
+mod columns;
 pub mod laws;
-mod making;
-mod objects;
 mod picture;
-mod reducing;
-mod reduction;
-mod refusal;
 mod row;
+mod rows;
 mod stream;
 mod stuck;
-mod sums;
-mod table;
+mod summary;
 mod tracing;
 
-pub use ended::Ended;
-pub use making::{Maker, OneThread, Workers};
-pub use reducing::{Reduced, reduce};
-pub use reduction::Reduction;
-pub use refusal::Refusal;
 pub use row::Row;
-pub use stream::{reduce_stream, trace_stream};
-pub use stuck::stuck_text;
-pub use sums::Format;
-pub use tracing::trace;
+pub use stream::{Traced, trace_stream};
+pub use stuck::{circle_text, stuck_text};
+pub use summary::{Summary, summary_line, summary_object};
+pub use tracing::Format;

@@ -1,193 +1,124 @@
-//! Rows of rounds as a picture, in SVG.
+//! Rounds as a picture, in SVG.
 
-ghost use Rattle.std.specs.Prelude.{◌≡◌, ◌≤◌, ◌++◌, IfOk, OnOk};
-ghost use Rattle.std.specs.List.{flat_map};
-ghost use Rattle.ic_by_rounds.specs.Pictures.{bar_of, bottom_of, middle, picture_of, point_at, points_of, title_of, top_of};
-ghost use Rattle.ic_by_rounds.specs.Pictures.{averages_of, counted, head};
-
-use crate::row::Row;
-use crate::sums::{Sums, sums_of};
+use crate::columns::{Column, Columns};
+use crate::summary::Summary;
 use std::alloc::{AllocError, Global};
+use std::fmt::Write;
 
-/// The picture of these rows, where there are so many nodes before the first round.
-pub(crate) fn picture(alloc: Global, before: u64, rows: &[Row]) -> Result<Vec<u8>, AllocError>
-    ensures { IfOk result (λ picture. picture.items ≡ picture_of before rows.now) }
-{
-    let sums = sums_of(before, rows);
-    let mut picture = Vec::new(alloc);
-    put_title(alloc, &sums, &mut picture)?;
-    put_top(alloc, &sums, &mut picture)?;
-    put_bars(alloc, rows, &mut picture)?;
-    put_middle(alloc, &mut picture)?;
-    put_points(alloc, &sums, before, rows, &mut picture)?;
-    put_bottom(alloc, &sums, &mut picture)?;
-    Ok(picture)
+/// What a picture's width and the greatest heights of bars and line stand for; not 0.
+#[derive(Clone, Copy, Debug)]
+struct Scale {
+    width: u64,
+    bars: u64,
+    line: u64,
 }
 
-/// Appends how a picture begins, and its title.
-fn put_title(alloc: Global, sums: &Sums, picture: &mut Vec<u8>) -> Result<(), AllocError>
-    ensures { OnOk result (picture.new.items ≡ picture.old.items ++ title_of sums.now) }
-{
-    put_head(alloc, picture)?;
-    put_counted(alloc, sums.rounds, b" round, ", b" rounds, ", picture)?;
-    put_counted(
-        alloc,
-        sums.interactions,
-        b" interaction, ",
-        b" interactions, ",
-        picture,
-    )?;
-    put_averages(alloc, sums, picture)?;
-    Ok(())
+/// The picture of rounds: a bar for each column, and a line through the nodes before the first and after each.
+pub(crate) fn picture(
+    alloc: Global,
+    before: u64,
+    columns: &Columns,
+    summary: Summary,
+) -> Result<Vec<u8>, AllocError> {
+    let scale = scale_of(columns.as_slice(), summary.nodes);
+    let mut out = String::new(alloc);
+    put_title(columns.width(), summary, &mut out)?;
+    put_bars(columns.as_slice(), scale, &mut out)?;
+    put_line(columns.as_slice(), before, scale, &mut out)?;
+    put_axes(scale.bars, summary, &mut out)?;
+    Ok(out.into_bytes())
 }
 
-/// Appends how a picture begins.
-fn put_head(alloc: Global, picture: &mut Vec<u8>) -> Result<(), AllocError>
-    ensures { OnOk result (picture.new.items ≡ picture.old.items ++ head) }
-{
-    let text = format!(in alloc;
+fn scale_of(columns: &[Column], nodes: u64) -> Scale {
+    let mut bars = 1u64;
+    for column in columns {
+        bars = bars.max(column.pairs);
+    }
+    Scale {
+        width: (columns.len() as u64).max(1),
+        bars,
+        line: nodes.max(1),
+    }
+}
+
+/// Appends how a picture begins, and its title, which says how many rounds a bar is for, if it is for several.
+fn put_title(width: u64, summary: Summary, out: &mut String) -> Result<(), AllocError> {
+    out.push_str(
         "<svg xmlns='http://www.w3.org/2000/svg' viewBox='0 0 800 450' font-family='sans-serif'>\n\
          <rect width='800' height='450' fill='white'/>\n\
-         <text x='400' y='24' text-anchor='middle'>"
+         <text x='400' y='24' text-anchor='middle'>",
     )?;
-    picture.extend_from_slice(text.as_bytes())?;
-    Ok(())
+    put_counted(summary.rounds, "round", out)?;
+    put_counted(summary.interactions, "interaction", out)?;
+    let (greatest, (whole, tenth)) = (summary.greatest, summary.average());
+    write!(
+        out,
+        "at most {greatest} and on average {whole}.{tenth} in a round"
+    )?;
+    if width > 1 {
+        write!(out, "; each bar is the sum of {width} rounds")?;
+    }
+    out.push_str("</text>\n")
 }
 
 /// Appends a number and what it counts.
-fn put_counted(
-    alloc: Global,
-    count: u64,
-    one: &[u8],
-    several: &[u8],
-    picture: &mut Vec<u8>,
-) -> Result<(), AllocError>
-    ensures { OnOk result
-        (picture.new.items ≡ picture.old.items ++ counted count one.now several.now) }
-{
-    picture.extend_from_slice(count.to_string(alloc)?.as_bytes())?;
-    picture.extend_from_slice(if count == 1 { one } else { several })?;
-    Ok(())
+fn put_counted(count: u64, what: &str, out: &mut String) -> Result<(), AllocError> {
+    let plural = if count == 1 { "" } else { "s" };
+    write!(out, "{count} {what}{plural}, ")
 }
 
-/// Appends how the title ends.
-fn put_averages(alloc: Global, sums: &Sums, picture: &mut Vec<u8>) -> Result<(), AllocError>
-    ensures { OnOk result (picture.new.items ≡ picture.old.items ++ averages_of sums.now) }
-{
-    let Sums {
-        greatest,
-        whole,
-        tenth,
-        ..
-    } = *sums;
-    let text = format!(in alloc;
-        "at most {greatest} and on average {whole}.{tenth} in a round</text>\n"
-    )?;
-    picture.extend_from_slice(text.as_bytes())?;
-    Ok(())
-}
-
-/// Appends what stands between the title and the bars.
-fn put_top(alloc: Global, sums: &Sums, picture: &mut Vec<u8>) -> Result<(), AllocError>
-    ensures { OnOk result (picture.new.items ≡ picture.old.items ++ top_of sums.now) }
-{
-    let Sums { width, bars, .. } = *sums;
-    let text = format!(in alloc;
+/// Appends the bars, in a window in which a unit is one column and one pair.
+fn put_bars(columns: &[Column], scale: Scale, out: &mut String) -> Result<(), AllocError> {
+    let Scale { width, bars, .. } = scale;
+    write!(
+        out,
         "<svg x='80' y='50' width='640' height='350' preserveAspectRatio='none' \
          viewBox='0.95 0 {width} {bars}'>\n\
          <g fill='#aaa' transform='matrix(1 0 0 -1 0 {bars})'>\n"
     )?;
-    picture.extend_from_slice(text.as_bytes())?;
-    Ok(())
-}
-
-/// Appends the bars.
-fn put_bars(alloc: Global, rows: &[Row], picture: &mut Vec<u8>) -> Result<(), AllocError>
-    ensures { OnOk result (picture.new.items ≡ picture.old.items ++ flat_map bar_of rows.now) }
-{
-    for row in rows {
-        put_bar(alloc, row, picture)?;
+    let mut place = 0u64;
+    for column in columns {
+        place = place.saturating_add(1);
+        let pairs = column.pairs;
+        write!(out, "<rect width='0.9' x='{place}' height='{pairs}'/>\n")?;
     }
-    Ok(())
+    out.push_str("</g></svg>\n")
 }
 
-/// Appends the bar of a round.
-fn put_bar(alloc: Global, row: &Row, picture: &mut Vec<u8>) -> Result<(), AllocError>
-    ensures { OnOk result (picture.new.items ≡ picture.old.items ++ bar_of row.now) }
-{
-    let round = row.round;
-    let pairs = row.pairs;
-    let text = format!(in alloc; "<rect width='0.9' x='{round}' height='{pairs}'/>\n")?;
-    picture.extend_from_slice(text.as_bytes())?;
-    Ok(())
-}
-
-/// Appends what stands between the bars and the line.
-fn put_middle(alloc: Global, picture: &mut Vec<u8>) -> Result<(), AllocError>
-    ensures { OnOk result (picture.new.items ≡ picture.old.items ++ middle) }
-{
-    let text = format!(in alloc;
-        "</g></svg>\n\
-         <g transform='matrix(0.1 0 0 -0.1 80 400)'>\n\
-         <polyline fill='none' stroke='black' stroke-width='20' points='\n"
-    )?;
-    picture.extend_from_slice(text.as_bytes())?;
-    Ok(())
-}
-
-/// Appends the points of the line.
-fn put_points(
-    alloc: Global,
-    sums: &Sums,
+/// Appends the line, in tenths of the picture's unit from where the axes meet.
+fn put_line(
+    columns: &[Column],
     before: u64,
-    rows: &[Row],
-    picture: &mut Vec<u8>,
-) -> Result<(), AllocError>
-    requires width { 1 ≤ sums.now.width }
-    requires line { 1 ≤ sums.now.line }
-    ensures { OnOk result
-        (picture.new.items ≡ picture.old.items ++ points_of sums.now before rows.now) }
-{
-    put_point(alloc, sums, 0, before, picture)?;
-    for row in rows {
-        put_point(alloc, sums, row.round, row.nodes, picture)?;
+    scale: Scale,
+    out: &mut String,
+) -> Result<(), AllocError> {
+    out.push_str(
+        "<g transform='matrix(0.1 0 0 -0.1 80 400)'>\n\
+         <polyline fill='none' stroke='black' stroke-width='20' points='\n",
+    )?;
+    put_point(scale, 0, before, out)?;
+    let mut place = 0u64;
+    for column in columns {
+        place = place.saturating_add(1);
+        put_point(scale, place, column.nodes, out)?;
     }
-    Ok(())
+    out.push_str("'/></g>\n")
 }
 
-/// Appends the point of so many nodes after a round.
-fn put_point(
-    alloc: Global,
-    sums: &Sums,
-    round: u64,
-    nodes: u64,
-    picture: &mut Vec<u8>,
-) -> Result<(), AllocError>
-    requires width { 1 ≤ sums.now.width }
-    requires line { 1 ≤ sums.now.line }
-    ensures { OnOk result
-        (picture.new.items ≡ picture.old.items ++ point_at sums.now round nodes) }
-{
-    let across = u128::from(round) * 6400 / u128::from(sums.width);
-    let up = u128::from(nodes) * 3500 / u128::from(sums.line);
-    let text = format!(in alloc; "{across},{up}\n")?;
-    picture.extend_from_slice(text.as_bytes())?;
-    Ok(())
+/// Appends the point of so many nodes after the column at a place.
+fn put_point(scale: Scale, place: u64, nodes: u64, out: &mut String) -> Result<(), AllocError> {
+    let across = u128::from(place) * 6400 / u128::from(scale.width.max(1));
+    let up = u128::from(nodes) * 3500 / u128::from(scale.line.max(1));
+    write!(out, "{across},{up}\n")
 }
 
 /// Appends the axes and their numbers.
-fn put_bottom(alloc: Global, sums: &Sums, picture: &mut Vec<u8>) -> Result<(), AllocError>
-    ensures { OnOk result (picture.new.items ≡ picture.old.items ++ bottom_of sums.now) }
-{
-    let Sums {
-        rounds,
-        greatest,
-        nodes,
-        ..
-    } = *sums;
-    let text = format!(in alloc;
-        "'/></g>\n\
-         <path d='M80 50V400H720V50' fill='none' stroke='black'/>\n\
+fn put_axes(bars: u64, summary: Summary, out: &mut String) -> Result<(), AllocError> {
+    let Summary { rounds, nodes, .. } = summary;
+    let greatest = if rounds == 0 { 0 } else { bars };
+    write!(
+        out,
+        "<path d='M80 50V400H720V50' fill='none' stroke='black'/>\n\
          <text x='80' y='42'>pairs fired (bars)</text>\n\
          <text x='720' y='42' text-anchor='end'>nodes (line)</text>\n\
          <text x='74' y='56' text-anchor='end'>{greatest}</text>\n\
@@ -198,7 +129,5 @@ fn put_bottom(alloc: Global, sums: &Sums, picture: &mut Vec<u8>) -> Result<(), A
          <text x='400' y='440' text-anchor='middle'>rounds</text>\n\
          <text x='720' y='420' text-anchor='end'>{rounds}</text>\n\
          </svg>\n"
-    )?;
-    picture.extend_from_slice(text.as_bytes())?;
-    Ok(())
+    )
 }

@@ -1,4 +1,4 @@
-//! The first equation of two agents, told by their symbols.
+//! The first equation of two agents, told by their symbols, and the first circle.
 
 ghost use Rattle.std.specs.Prelude.{◌≡◌, IfOk, IsTrue};
 ghost use Rattle.std.specs.Option.{option_map};
@@ -27,4 +27,14 @@ pub fn stuck_text(
     text.extend_from_slice(b"><")?;
     text.extend_from_slice(symbols.text(right))?;
     Ok(Some(text))
+}
+
+/// The symbol at which the first circle is closed: an equation of a name with a term that has it.
+pub fn circle_text(
+    alloc: Global,
+    symbols: &Symbols,
+    flat: &Flat,
+) -> Result<Option<Vec<u8>>, AllocError> {
+    let (terms, equations) = (flat.interface_len(), flat.equations_len());
+    ic_in_place::circle_text(alloc, symbols, flat.words(), terms, equations)
 }

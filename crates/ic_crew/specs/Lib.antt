@@ -4,6 +4,5 @@ pub mod Dealing
 pub mod Answers
 pub mod Matching
 pub mod Crews
-pub mod Teams
 pub mod lemmas
 pub mod inner

@@ -5,8 +5,7 @@
 //! among the workers, each sends back an `Answer` for each of its works, and `match_answers` compares
 //! them with what was asked for.
 //!
-//! Dropping the crew ends its workers. A `Team` is a crew with its threads, which it starts at its
-//! first round and joins at its end.
+//! Dropping the crew ends its workers.
 #![tactic(auto)]
 
 mod answers;
@@ -19,8 +18,6 @@ mod parts;
 mod posts;
 mod sizes;
 mod standing;
-mod teams;
-mod threads;
 mod weighing;
 
 pub use answers::Answer;
@@ -30,4 +27,3 @@ pub use matching::match_answers;
 pub use posts::Post;
 pub use sizes::MAX_SIZE;
 pub use standing::stand;
-pub use teams::Team;

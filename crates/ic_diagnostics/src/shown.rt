@@ -1,8 +1,5 @@
 //! The line of a place as it is shown: cut around the place, and with bytes that every terminal takes.
 
-ghost use Rattle.std.specs.Prelude.{◌≡◌, ◌++◌, IfOk, OnOk, map};
-ghost use Rattle.ic_diagnostics.specs.Lines.{shown, shown_after, shown_before};
-
 use ic_text::is_blank;
 use std::alloc::{AllocError, Global};
 
@@ -16,22 +13,16 @@ pub(crate) const SHOWN_AFTER: usize = 20;
 const DOTS: &[u8] = b"...";
 
 /// A byte as it is shown.
-fn shown(byte: u8) -> u8
-    ensures { result ≡ shown byte }
-{
-    if is_blank(byte) {
-        b' '
-    } else if byte >= 32 && byte < 127 {
-        byte
-    } else {
-        b'?'
+fn shown(byte: u8) -> u8 {
+    match byte {
+        _ if is_blank(byte) => b' ',
+        32..=126 => byte,
+        _ => b'?',
     }
 }
 
 /// Appends bytes as they are shown.
-fn put_shown(bytes: &[u8], line: &mut Vec<u8>) -> Result<(), AllocError>
-    ensures { OnOk result (line.new.items ≡ line.old.items ++ map shown bytes.now) }
-{
+fn put_shown(bytes: &[u8], line: &mut Vec<u8>) -> Result<(), AllocError> {
     for byte in bytes {
         line.push(shown(*byte))?;
     }
@@ -39,9 +30,7 @@ fn put_shown(bytes: &[u8], line: &mut Vec<u8>) -> Result<(), AllocError>
 }
 
 /// A line before the place, as it is shown.
-pub(crate) fn shown_before(alloc: Global, line: &[u8]) -> Result<Vec<u8>, AllocError>
-    ensures { IfOk result (λ before. before.items ≡ shown_before line.now) }
-{
+pub(crate) fn shown_before(alloc: Global, line: &[u8]) -> Result<Vec<u8>, AllocError> {
     let mut before = Vec::new(alloc);
     if line.len() <= BEFORE {
         put_shown(line, &mut before)?;
@@ -53,9 +42,7 @@ pub(crate) fn shown_before(alloc: Global, line: &[u8]) -> Result<Vec<u8>, AllocE
 }
 
 /// A line from the place on, as it is shown.
-pub(crate) fn shown_after(alloc: Global, line: &[u8]) -> Result<Vec<u8>, AllocError>
-    ensures { IfOk result (λ after. after.items ≡ shown_after line.now) }
-{
+pub(crate) fn shown_after(alloc: Global, line: &[u8]) -> Result<Vec<u8>, AllocError> {
     let mut after = Vec::new(alloc);
     if line.len() <= SHOWN_AFTER {
         put_shown(line, &mut after)?;

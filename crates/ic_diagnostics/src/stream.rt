@@ -1,12 +1,11 @@
 //! Answering what a reader gives, and telling of a text that is refused.
 
-ghost use Rattle.std.specs.Prelude.{◌≡◌, ◌≢◌, ◌≤◌, ◌++◌, ◌⊎◌, ℕ, List, Ok, IfOk, IfErr, IfSome, IsTrue, OnOk, length};
+ghost use Rattle.std.specs.Prelude.{◌≡◌, ◌≢◌, ◌⊎◌, ℕ, List, Ok, IfOk, IfErr, IsTrue, OnOk};
 ghost use Rattle.std.specs.Io.KnownBytes.{Keeps};
 ghost use Rattle.ic_term.specs.Symbol.{is_over};
 ghost use Rattle.ic_round.specs.Settling.{settled};
 ghost use Rattle.ic_text.specs.SystemText.{ReadsSystem};
 ghost use Rattle.ic_streams.specs.Streams.{OfText, IsAnswered, FaultOf, Rounds, Settles, TakesAt, TakesText, line_of};
-ghost use Rattle.ic_diagnostics.specs.Telling.{Appended, AppendedAt, told_lines, told_lines_within};
 ghost use Rattle.ic_streams.specs.Faults.{fault_of_text};
 
 use crate::telling::{Kind, told_lines_within};
@@ -37,9 +36,6 @@ pub fn settle_telling<R: Read, W: Write>(
     ensures taken { OnOk result (TakesText (R.remaining reader.old) (R.remaining reader.new)) }
     ensures taken_at_fault { IfErr result
         (λ fault. TakesAt fault (R.remaining reader.old) (R.remaining reader.new)) }
-    ensures told { IfErr result (λ fault. Appended Settles Kind.Config
-        (R.remaining reader.old) (R.remaining reader.new) fault
-        told.old.items told.new.items) }
     ensures quiet { OnOk result (told.new.items ≡ told.old.items) }
 {
     let text = read_text(alloc, reader)?;
@@ -66,9 +62,6 @@ pub fn once_telling<R: Read, W: Write>(
     ensures taken { OnOk result (TakesText (R.remaining reader.old) (R.remaining reader.new)) }
     ensures taken_at_fault { IfErr result
         (λ fault. TakesAt fault (R.remaining reader.old) (R.remaining reader.new)) }
-    ensures told { IfErr result (λ fault. Appended Rounds Kind.System
-        (R.remaining reader.old) (R.remaining reader.new) fault
-        told.old.items told.new.items) }
     ensures quiet { OnOk result (told.new.items ≡ told.old.items) }
 {
     let text = read_text(alloc, reader)?;
@@ -84,12 +77,7 @@ pub fn refused(
     misread: Misread,
     told: &mut Vec<u8>,
 ) -> StreamFault
-    requires { IfSome misread.place (λ at. at ≤ length text.now) }
     ensures fault { (result ≡ StreamFault.Memory) ⊎ (result ≡ fault_of_text misread.fault) }
-    ensures told { result ≢ StreamFault.Memory → told.new.items
-        ≡ told.old.items
-        ++ told_lines kind text.now misread.fault misread.place misread.detail }
-    ensures unsaid { result ≡ StreamFault.Memory → told.new.items ≡ told.old.items }
 {
     refused_within(alloc, Limits::Served, kind, text, misread, told)
 }
@@ -103,11 +91,7 @@ pub fn refused_within(
     misread: Misread,
     told: &mut Vec<u8>,
 ) -> StreamFault
-    requires { IfSome misread.place (λ at. at ≤ length text.now) }
     ensures fault { (result ≡ StreamFault.Memory) ⊎ (result ≡ fault_of_text misread.fault) }
-    ensures told { result ≢ StreamFault.Memory → told.new.items ≡ told.old.items
-        ++ told_lines_within limits kind text.now misread.fault misread.place misread.detail }
-    ensures unsaid { result ≡ StreamFault.Memory → told.new.items ≡ told.old.items }
 {
     if misread.fault == TextFault::Memory {
         return StreamFault::Memory;
@@ -125,8 +109,6 @@ pub fn refused_within(
 fn settled_line(alloc: Global, text: &[u8], told: &mut Vec<u8>) -> Result<Vec<u8>, StreamFault>
     ensures line { IfOk result (λ line. Settles text.now (Ok line.items)) }
     ensures refused { IfErr result (λ fault. FaultOf Settles text.now fault) }
-    ensures told { IfErr result (λ fault. AppendedAt Settles Kind.Config text.now fault
-        told.old.items told.new.items) }
     ensures quiet { OnOk result (told.new.items ≡ told.old.items) }
     ensures sort { IfErr result
         (λ fault. (fault ≢ StreamFault.Write) × (fault ≢ StreamFault.Read)) }
@@ -150,8 +132,6 @@ fn line_settled(alloc: Global, symbols: &Symbols, config: &Flat) -> Result<Vec<u
 fn once_line(alloc: Global, text: &[u8], told: &mut Vec<u8>) -> Result<Vec<u8>, StreamFault>
     ensures line { IfOk result (λ line. Rounds text.now (Ok line.items)) }
     ensures refused { IfErr result (λ fault. FaultOf Rounds text.now fault) }
-    ensures told { IfErr result (λ fault. AppendedAt Rounds Kind.System text.now fault
-        told.old.items told.new.items) }
     ensures quiet { OnOk result (told.new.items ≡ told.old.items) }
     ensures sort { IfErr result
         (λ fault. (fault ≢ StreamFault.Write) × (fault ≢ StreamFault.Read)) }
@@ -168,8 +148,6 @@ fn round_line(alloc: Global, system: FlatSystem) -> Result<Vec<u8>, StreamFault>
         → Rounds text (Ok line.items)) }
     ensures refused { IfErr result (λ fault. (text : List ℕ) → ReadsSystem text (Ok system)
         → FaultOf Rounds text fault) }
-    ensures told { IfErr result (λ fault. (text told : List ℕ)
-        → AppendedAt Rounds Kind.System text fault told told) }
     ensures sort { IfErr result
         (λ fault. (fault ≢ StreamFault.Write) × (fault ≢ StreamFault.Read)) }
 {

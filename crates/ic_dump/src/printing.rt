@@ -4,14 +4,28 @@ ghost use Rattle.std.specs.Prelude.{◌≡◌, ◌++◌, map, IfOk, OnOk};
 ghost use Rattle.std.specs.List.{AllByRecursion};
 ghost use Rattle.ic_term.specs.Term.{tree, cell_tree};
 ghost use Rattle.ic_term.specs.Tree.{agent, trees_of};
+ghost use Rattle.ic_term.specs.Configuration.{Configuration};
 ghost use Rattle.ic_rules.specs.RuleSet.{IsRuleOver};
-ghost use Rattle.ic_dump.specs.Writing.{rules_text};
+ghost use Rattle.ic_text.specs.Text.{printed};
+ghost use Rattle.ic_dump.specs.Writing.{rules_text, system_text};
 ghost use Rattle.ic_dump.specs.inner.Printing.{rule_text, rules_list_text};
 
 use ic_rules::{Rule, RuleSet};
 use ic_term::{Cell, Symbols, Term, copy_terms};
 use ic_text::put_cell;
 use std::alloc::{AllocError, Global};
+
+/// What stands before a configuration in the text of a system: the rules and a space.
+pub fn front_of_system(alloc: Global, rules: &RuleSet) -> Result<Vec<u8>, AllocError>
+    ensures { IfOk result (λ front. (c : Configuration)
+        → front.items ++ printed rules.now.symbols c
+        ≡ system_text (record { rules = rules.now; config = c })) }
+{
+    let mut front = Vec::new(alloc);
+    put_rules(alloc, rules, &mut front)?;
+    front.push(b' ')?;
+    Ok(front)
+}
 
 /// Appends the rules, in braces and with `;` between them.
 pub(crate) fn put_rules(alloc: Global, rules: &RuleSet, out: &mut Vec<u8>) -> Result<(), AllocError>

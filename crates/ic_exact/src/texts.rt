@@ -1,33 +1,21 @@
-//! What is drawn under a line, what names are written as, and what a line submits.
+//! What names are written as, and what a line submits.
 
-ghost use Rattle.std.specs.Prelude.{◌≡◌, ℕ, ◌+◌, ◌^◌, ◌<◌, ◌≤◌, List, [], ◌∷◌, ◌++◌, false, Option, Ok, Contains, IsTrue, codes, count_by, length, replicate, slice_index_or};
-ghost use Rattle.std.specs.List.{concat};
+ghost use Rattle.std.specs.Prelude.{◌≡◌, ℕ, ◌+◌, ◌<◌, ◌≤◌, List, [], ◌∷◌, ◌++◌, false, Option, Ok, Contains, IsTrue, codes, length, slice_index_or};
 ghost use Rattle.ic_term.specs.Configuration.{configuration_names, occurrences};
 ghost use Rattle.ic_term.specs.Symbol.{Symbol};
 ghost use Rattle.ic_rules.specs.System.{SystemParts};
 ghost use Rattle.ic_text.specs.Name.{is_name, name_text};
 ghost use Rattle.ic_text.specs.declared.limits.TheConstants.{MAX_NAME};
-ghost use Rattle.ic_diagnostics.specs.Lines.{IsMarked, feed, is_feed};
 ghost use Rattle.ic_expand.specs.Generic.{agent_text, copies};
 ghost use Rattle.ic_expand.specs.Names.{IsRenaming};
-ghost use Rattle.ic_expand.specs.Reading.{is_known, noted, with_pair};
+ghost use Rattle.ic_expand.specs.Pieces.{pieces};
+ghost use Rattle.ic_expand.specs.Reading.{is_known, noted, pairs_of};
 ghost use Rattle.ic_jobs.specs.Job.{JobParts};
 ghost use Rattle.ic_jobs.specs.declared.command.Command.TheVariants as command;
 ghost use Rattle.ic_commands.specs.LineText.{ReadsLine};
 ghost use Rattle.ic_commands.specs.declared.line.Line.TheVariants.{Command as Asks};
 ghost use Rattle.ic_dump.specs.Alike.{IsFree, Submits};
 ghost use Rattle.ic_dump.specs.Writing.{system_of};
-
-/// There is one picture of a line with a mark under a place, and it has two lines. The mark `^` stands under the first byte from
-/// the place on: in the second line so many spaces are before it as bytes are before the place in the first.
-pub fn a_mark_is_drawn_in_one_way()
-    ensures one { (before after p q : List ℕ)
-        → IsMarked before after p → IsMarked before after q → p ≡ q }
-    ensures lines { (before after p : List ℕ) → IsMarked before after p → count_by is_feed p ≡ 2 }
-    ensures under { (before after p : List ℕ) → IsMarked before after p
-        → p ≡ concat (before ∷ after ∷ feed
-        ∷ replicate (length before) 32 ∷ codes "^" ∷ feed ∷ []) }
-{}
 
 /// A long name isn't written as a name that stands in the text already, and what a name is written as would be written so
 /// again.
@@ -38,13 +26,13 @@ pub fn written_names_stay_apart()
         → (n : List ℕ) → Contains ns n → f (f n) ≡ f n }
 {}
 
-/// Of the symbols of a text and of the pairs of its rules none is left out before the wide limits. A copier has a copy for each
-/// argument, with the names of its place.
+/// Of the symbols of a text none is left out before the wide limit, nor a pair of its rules, here of two. A copier has a copy
+/// for each argument, with the names of its place.
 pub fn none_is_left_out_below_the_limits()
     ensures symbol { (ss : List Symbol) (s : Symbol) → is_known s.text ss ≡ false
         → length ss < 65536 → noted ss s ≡ ss ++ s ∷ [] }
-    ensures pair { (pairs : List (List ℕ × List ℕ)) (pair : List ℕ × List ℕ)
-        → length pairs < 2 ^ 31 → with_pair pairs pair ≡ pairs ++ pair ∷ [] }
+    ensures pair { pairs_of (pieces (codes "{A><B; C(x)> <D(x)} <|>"))
+        ≡ (codes "A", codes "B") ∷ (codes "C", codes "D") ∷ [] }
     ensures all { (s : List ℕ) (n : ℕ) → length (copies s n) ≡ n }
     ensures copy { (s : List ℕ) (n k : ℕ) → k < n → slice_index_or (copies s n) k []
         ≡ agent_text s (name_text k ∷ name_text (k + 26) ∷ []) }

@@ -40,7 +40,7 @@ use Rattle.ic_inspect.specs.declared.fault.InspectFault.TheVariants as inspect
 use Rattle.ic_args.specs.declared.words.WordsFault.TheVariants as words
 use Rattle.ic_exits.specs.declared.failure.Failure.{Failure}
 use Rattle.ic_exits.specs.declared.failure.Failure.TheVariants.{Words, Stream, Disk, Locked, Create, NotEmpty, Open, Serve, Attend, Dump, Inspect, Jobs, Batch, Faults, NotDone}
-use Rattle.ic_exits.specs.declared.failure.Failure.TheVariants.{Round, Overgrown, TableFull, OutOfMemory, Kept, Halted}
+use Rattle.ic_exits.specs.declared.failure.Failure.TheVariants.{Overgrown, TableFull, OutOfMemory, Kept, Halted}
 use Rattle.ic_exits.specs.declared.failure.Reached.{Reached}
 use Rattle.ic_in_place.specs.declared.running.End.{End}
 use Rattle.ic_in_place.specs.declared.running.End.TheVariants as end
@@ -121,7 +121,6 @@ status_of Locked = 6
 status_of (Halted lines) = 7
 status_of Faults = 1
 status_of NotDone = 5
-status_of (Round refusal) = 1
 status_of (Overgrown reached nodes) = 1
 status_of (TableFull reached) = 1
 status_of (OutOfMemory reached) = 4
@@ -256,7 +255,6 @@ failure_line (Batch fault) = told (batch_word fault)
 failure_line (Halted lines) = lines.items
 failure_line Faults = told (codes "faults")
 failure_line NotDone = told (codes "not done")
-failure_line (Round refusal) = told (round_word refusal.fault)
 failure_line (Overgrown reached nodes) = told (codes "overgrown")
 failure_line (TableFull reached) = told (codes "table full")
 failure_line (OutOfMemory reached) = told (codes "memory")
@@ -277,7 +275,7 @@ failure_of_dump (disk_dump.Open cause) = Open cause
 failure_of_dump (disk_dump.Dump fault) = Dump fault
 
 -- how the program ends where a net was reduced in place, by why that ended, how far it came and how
--- many places it may have
+-- many names and agents its net may have
 abbrev pub reduce_ending : End → Reached → ℕ → Result (Unit {0}) Failure
 reduce_ending end.Quiet reached nodes = Ok tt
 reduce_ending end.Steps reached nodes = Err NotDone

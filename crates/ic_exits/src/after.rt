@@ -1,21 +1,20 @@
 //! What is told after the line of a failure: why a disk's file doesn't serve, why standard input can't be read or standard
-//! output be written, which round is refused, or how far a net has come that was reduced in place.
+//! output be written, or how far a net has come that was reduced in place.
 
 use crate::{Failure, Reached};
 use ic_batch::{BatchFault, Difference};
 use ic_book::BookFault;
-use ic_by_rounds::Refusal;
 use ic_causes::{Cause, Reason, Target, cause_line, shown_path};
 use ic_dump::DumpFault;
 use ic_frames::KeepFault;
 use ic_inspect::InspectFault;
 use ic_keeping::KeepingFault;
-use ic_round::RoundFault;
 use ic_scripts::ScriptsFault;
 use ic_serving::ServeFault;
 use ic_slots::{CreateFault, OpenCause};
 use ic_streams::StreamFault;
 use std::alloc::{AllocError, Global};
+use std::fmt::Write;
 
 impl Failure {
     /// Whether nothing is told of the failure, where this call has failed last: nobody reads the answers
@@ -98,7 +97,6 @@ impl Failure {
             Failure::Attend(ScriptsFault::Open(fault)) => open_line(alloc, *fault, path),
             Failure::Batch(fault) => batch_line(alloc, *fault, path),
             Failure::Kept(fault) => kept_line(alloc, *fault, path),
-            Failure::Round(refusal) => round_line(alloc, *refusal),
             Failure::Overgrown(reached, nodes) => overgrown_line(alloc, *reached, *nodes),
             Failure::TableFull(reached) | Failure::OutOfMemory(reached) => {
                 reached_line(alloc, *reached)
@@ -185,13 +183,13 @@ fn kept_line(alloc: Global, fault: KeepingFault, path: &[u8]) -> Result<Vec<u8>,
         )?,
         KeepingFault::Open(OpenCause::NoSlot) => format!(in alloc;
             "{file}: no reduction is kept in it and in its second file, {file}.2: bring back a copy of both; \
-after a stop in the first keep, remove both, and begin again\n"
+after a stop in the first keep, give the same `--keep` again\n"
         )?,
         KeepingFault::Unsound | KeepingFault::Open(OpenCause::TwoAlike | OpenCause::Damaged) => {
             format!(in alloc;
                 "{file}: something else has changed it or its second file, {file}.2, or they were copied in part; \
-copy both, then write `head -c 17 /dev/zero` over the one that `inspect` doesn't show whole, else over the one that it shows \
-as held, and resume again; after a stop in the first keep, remove both, and begin again\n"
+copy both, then `--resume {file} --from-one-file` goes on with the one that is whole; \
+after a stop in the first keep, give the same `--keep` again\n"
             )?
         }
         _ => String::new(alloc),
@@ -204,7 +202,7 @@ pub fn second_missing(alloc: Global, path: &[u8]) -> Result<Vec<u8>, AllocError>
     let file = shown(alloc, path)?;
     let line = format!(in alloc;
         "{file}: its second file, {file}.2, is missing: bring it back; if it is lost, \
-`head -c 17 /dev/zero > {file}.2` makes it anew\n"
+`--resume {file} --from-one-file` goes on without it\n"
     )?;
     Ok(line.into_bytes())
 }
@@ -214,30 +212,15 @@ pub fn first_missing(alloc: Global, path: &[u8]) -> Result<Vec<u8>, AllocError> 
     let file = shown(alloc, path)?;
     let line = format!(in alloc;
         "{file}: its second file, {file}.2, holds a reduction: bring the first one back; if it is lost, \
-`head -c 17 /dev/zero > {file}` makes it anew\n"
+`--resume {file} --from-one-file` goes on without it\n"
     )?;
     Ok(line.into_bytes())
 }
 
-/// Which round is refused, and how many nodes there are before it.
-fn round_line(alloc: Global, refusal: Refusal) -> Result<Vec<u8>, AllocError> {
-    let round = refusal.round;
-    let nodes = refusal.nodes;
-    let line = match refusal.fault {
-        RoundFault::Overgrown => format!(in alloc;
-            "round {round} would pass 8192 nodes as its pairs fire; before it there are {nodes}\n"
-        )?,
-        RoundFault::NamesOut | RoundFault::Memory => {
-            format!(in alloc; "round {round}, nodes {nodes}\n")?
-        }
-    };
-    Ok(line.into_bytes())
-}
-
-/// How far a net has come that has more places and equations that are left than so many.
-fn overgrown_line(alloc: Global, reached: Reached, nodes: u64) -> Result<Vec<u8>, AllocError> {
+/// How far a net has come that has more names and agents than so many.
+fn overgrown_line(alloc: Global, reached: Reached, most: u64) -> Result<Vec<u8>, AllocError> {
     let text = reached_text(alloc, reached)?;
-    let line = format!(in alloc; "{text}, --nodes {nodes}\n")?;
+    let line = format!(in alloc; "{text}, --nodes {most}\n")?;
     Ok(line.into_bytes())
 }
 
@@ -251,9 +234,15 @@ fn reached_line(alloc: Global, reached: Reached) -> Result<Vec<u8>, AllocError> 
 /// What is told of how far a net has come.
 fn reached_text(alloc: Global, reached: Reached) -> Result<String, AllocError> {
     let interactions = reached.interactions;
-    let places = reached.places;
+    let nodes = reached.nodes;
     let left = reached.left;
-    format!(in alloc; "interactions {interactions}, places {places}, equations {left}")
+    let mut text = format!(in alloc;
+        "interactions {interactions}, nodes {nodes}, equations {left}"
+    )?;
+    if let Some(rounds) = reached.rounds {
+        write!(text, ", rounds {rounds}")?;
+    }
+    Ok(text)
 }
 
 /// The line that says this of the file of a path.

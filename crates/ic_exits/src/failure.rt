@@ -9,7 +9,6 @@ ghost use Rattle.ic_exits.specs.Endings.{keep_word, kept_status, kept_word, redu
 
 use ic_args::WordsFault;
 use ic_batch::{BatchFault, JobsCause, JobsFault};
-use ic_by_rounds::Refusal;
 use ic_causes::{Cause, Reason};
 use ic_commands::print_reply;
 use ic_disk::DiskFault;
@@ -34,10 +33,12 @@ use std::alloc::{AllocError, Global};
 pub struct Reached {
     /// How many interactions were made.
     pub interactions: u64,
-    /// How many places the net has.
-    pub places: u64,
+    /// How many names and agents the net has.
+    pub nodes: u64,
     /// How many equations of it are left: those that are pending, and those that were set aside.
     pub left: u64,
+    /// How many rounds are over, if it is reduced by rounds.
+    pub rounds: Option<u64>,
 }
 
 /// Why the program doesn't do what it is asked, or not all of it.
@@ -75,9 +76,7 @@ pub enum Failure {
     Faults,
     /// All rounds or interactions were made of what was to be reduced, and a step is still possible.
     NotDone,
-    /// A round is refused, after those that were made before it.
-    Round(Refusal),
-    /// A net that is reduced in place has more places and equations that are left than so many.
+    /// A net that is reduced in place has more names and agents than so many.
     Overgrown(Reached, u64),
     /// A table of a net that is reduced in place is full.
     TableFull(Reached),
@@ -110,7 +109,6 @@ impl Failure {
             Failure::Halted(_) => 7,
             Failure::Faults => 1,
             Failure::NotDone => 5,
-            Failure::Round(_) => 1,
             Failure::Overgrown(_, _) | Failure::TableFull(_) => 1,
             Failure::OutOfMemory(_) => 4,
             Failure::Kept(fault) => kept_status(*fault),
@@ -140,7 +138,6 @@ impl Failure {
             Failure::Halted(lines) => lines.to_vec(alloc),
             Failure::Faults => told(alloc, b"faults"),
             Failure::NotDone => told(alloc, b"not done"),
-            Failure::Round(refusal) => told(alloc, round_word(refusal.fault)),
             Failure::Overgrown(_, _) => told(alloc, b"overgrown"),
             Failure::TableFull(_) => told(alloc, b"table full"),
             Failure::OutOfMemory(_) => told(alloc, b"memory"),
@@ -178,7 +175,7 @@ pub fn opening_failure(fault: DiskFault, cause: Option<Cause>) -> Failure
 }
 
 /// How the program ends where a net was reduced in place, by why that ended, how far it came and how
-/// many places it may have.
+/// many names and agents its net may have.
 pub fn reduce_ending(end: End, reached: Reached, nodes: u64) -> Result<(), Failure>
     ensures { result ≡ reduce_ending end reached nodes }
 {
@@ -197,6 +194,13 @@ pub fn stuck_line(alloc: Global, pair: &[u8]) -> Result<Vec<u8>, AllocError>
 {
     let mut words = b"stuck ".to_vec(alloc)?;
     words.extend_from_slice(pair)?;
+    told(alloc, &words)
+}
+
+/// The line for standard error that tells the symbol at which a circle is closed, with its line feed. It is no failure.
+pub fn circle_line(alloc: Global, symbol: &[u8]) -> Result<Vec<u8>, AllocError> {
+    let mut words = b"circle at ".to_vec(alloc)?;
+    words.extend_from_slice(symbol)?;
     told(alloc, &words)
 }
 

@@ -8,6 +8,8 @@ mod job_lines;
 mod others;
 
 pub use after::{first_missing, second_missing};
-pub use failure::{Failure, Reached, idle_line, opening_failure, reduce_ending, stuck_line};
+pub use failure::{
+    Failure, Reached, circle_line, idle_line, opening_failure, reduce_ending, stuck_line,
+};
 pub use job_lines::refused_job_line;
 pub use others::Other;

@@ -1,7 +1,7 @@
 -- How a text is cut into its pieces, and joined of them.
-use Rattle.std.proofs.Common.{◌≡◌, ◌≢◌, ℕ, zero, suc, ◌+◌, ◌&&◌, Bool, true, false, cond, List, [], ◌∷◌, ◌++◌, take, drop, refl, sym, ap, ◌∙◌, arith}
-use Rattle.std.specs.List.{concat, prefix_len}
-use Rattle.ic_expand.specs.Pieces.{is_word, joins, pieces, with_byte}
+use Rattle.std.proofs.Common.{◌≡◌, ◌≢◌, ℕ, zero, suc, ◌+◌, ◌<◌, ◌&&◌, Bool, true, false, cond, List, [], ◌∷◌, ◌++◌, take, drop, length, refl, sym, ap, ◌∙◌, arith}
+use Rattle.std.specs.List.{concat, list_all, prefix_len}
+use Rattle.ic_expand.specs.Pieces.{first_byte, is_word, joins, pieces, with_byte}
 
 -- ---- joined
 
@@ -74,3 +74,17 @@ cut_run (b ∷ bs) n is = by_byte (joins b) refl is (λ m some. cut_run bs m som
 pub cut_some : (bs : List ℕ) (n : ℕ) → n ≡ prefix_len joins bs → n ≢ 0 → pieces bs ≡ take n bs ∷ pieces (drop n bs)
 cut_some bs zero is other = absurd (other refl)
 cut_some bs (suc n) is other = cut_run bs n (sym is)
+
+-- ---- a piece is one byte, or bytes of words
+
+pub lone_piece : (text : List ℕ) → 0 < length text → take 1 text ≡ first_byte (take 1 text) ∷ []
+lone_piece [] some = absurd (omega (arith, some))
+lone_piece (b ∷ bs) some = refl
+
+pub run_piece : (text : List ℕ) → list_all joins (take (prefix_len joins text) text) ≡ true
+run_piece [] = refl
+run_piece (b ∷ bs) = by (joins b) refl (run_piece bs)
+  where
+    by : (t : Bool) → joins b ≡ t → list_all joins (take (prefix_len joins bs) bs) ≡ true → list_all joins (take (cond t (1 + prefix_len joins bs) 0) (b ∷ bs)) ≡ true
+    by true is later = ap (λ (k : ℕ). list_all joins (take k (b ∷ bs))) (let e : 1 + prefix_len joins bs ≡ suc (prefix_len joins bs) = omega arith in e) ∙ (λ i. is i && later i)
+    by false is later = refl

@@ -1,10 +1,13 @@
 pub mod Cutting
 pub mod Lists
+pub mod Placed
+pub mod AheadLemmas
+pub mod GivenLemmas
+pub mod AskedLemmas
 pub mod Steps
 pub mod Spares
 pub mod Renamings
 pub mod Plain
 pub mod GenericLemmas
-pub mod Within
 pub mod Streaming
 pub mod RuleLemmas

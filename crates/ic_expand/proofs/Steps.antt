@@ -1,6 +1,6 @@
 -- What one piece more makes of what is found in a text.
-use Rattle.std.proofs.Common.{◌≡◌, ℕ, ◌+◌, Bool, true, false, cond, List, ◌∷◌, ◌++◌, length, refl, sym, ap, ◌∙◌, append_assoc, Option, None, Result, Ok, Err}
-use Rattle.std.specs.List.{concat, fold}
+use Rattle.std.proofs.Common.{◌≡◌, ℕ, ◌+◌, ◌||◌, Bool, true, false, cond, List, ◌∷◌, ◌++◌, length, refl, sym, ap, ◌∙◌, append_assoc, Option, None, Result, Ok, Err}
+use Rattle.std.specs.List.{concat, fold, list_any}
 use Rattle.std.proofs.lemmas.Bool.{false≢true}
 use Rattle.ic_term.specs.Symbol.{Symbol}
 use Rattle.ic_expand.specs.declared.fault.Reason.{Reason}
@@ -9,7 +9,7 @@ use Rattle.ic_expand.specs.declared.names.Spelling.{Spelling}
 use Rattle.ic_expand.specs.declared.spot.Spot.{Spot}
 use Rattle.ic_expand.specs.Pieces.{pieces}
 use Rattle.ic_expand.specs.Spots.{after}
-use Rattle.ic_expand.specs.Reading.{arguments, heads, is_head, is_use, noted, partner, uses, with_pair}
+use Rattle.ic_expand.specs.Reading.{arguments, heads, is_head, is_use, noted, partner, uses}
 use Rattle.ic_expand.specs.Names.{is_named, names, with_word}
 use Rattle.ic_expand.specs.Expanding.{Sheet, before_text, piece_text, refusal, unless_refused, with_generic, written}
 use Rattle.ic_expand.proofs.Cutting.{concat-pieces}
@@ -19,6 +19,10 @@ use Rattle.ic_expand.proofs.Cutting.{concat-pieces}
 if_yes : {X Y : Type 0} (f : List X → Y) (b : Bool) (x : X) (xs : List X) → b ≡ true → f (cond b (x ∷ xs) xs) ≡ f (x ∷ xs)
 if_yes f true x xs is = refl
 if_yes f false x xs is = absurd (false≢true is)
+
+if_no : {X : Type 0} (b : Bool) (x : X) (xs : List X) → b ≡ false → cond b (x ∷ xs) xs ≡ xs
+if_no true x xs is = absurd (false≢true (sym is))
+if_no false x xs is = refl
 
 -- ---- symbols
 
@@ -30,15 +34,22 @@ module _ (ss : List Symbol) (spot : Spot) (p more rest : List ℕ) (cut : pieces
       ∙ if_yes (fold noted ss) (is_use spot p) (record { text = p; arity = arguments (concat (pieces more)) }) (uses (after spot p) (pieces more)) is
       ∙ ap (λ (text : List ℕ). fold noted (noted ss (record { text = p; arity = arguments text })) (uses (after spot p) (pieces more))) (concat-pieces more)
 
+  pub unused : is_use spot p ≡ false → uses spot (pieces rest) ≡ uses (after spot p) (pieces more)
+  unused is = ap (uses spot) cut ∙ if_no (is_use spot p) (record { text = p; arity = arguments (concat (pieces more)) }) (uses (after spot p) (pieces more)) is
+
 -- ---- pairs
 
-module _ (pairs : List (List ℕ × List ℕ)) (spot : Spot) (p more rest : List ℕ) (cut : pieces rest ≡ p ∷ pieces more) where
+module _ (p_at : List ℕ × List ℕ → Bool) (spot : Spot) (p more rest : List ℕ) (cut : pieces rest ≡ p ∷ pieces more) where
   pub paired : is_head spot p ≡ true
-      → fold with_pair pairs (heads spot (pieces rest)) ≡ fold with_pair (with_pair pairs (p, partner more)) (heads (after spot p) (pieces more))
+      → list_any p_at (heads spot (pieces rest)) ≡ (p_at (p, partner more) || list_any p_at (heads (after spot p) (pieces more)))
   paired is =
-      ap (λ ps. fold with_pair pairs (heads spot ps)) cut
-      ∙ if_yes (fold with_pair pairs) (is_head spot p) (p, partner (concat (pieces more))) (heads (after spot p) (pieces more)) is
-      ∙ ap (λ (text : List ℕ). fold with_pair (with_pair pairs (p, partner text)) (heads (after spot p) (pieces more))) (concat-pieces more)
+      ap (λ ps. list_any p_at (heads spot ps)) cut
+      ∙ if_yes (list_any p_at) (is_head spot p) (p, partner (concat (pieces more))) (heads (after spot p) (pieces more)) is
+      ∙ ap (λ (text : List ℕ). p_at (p, partner text) || list_any p_at (heads (after spot p) (pieces more))) (concat-pieces more)
+
+  pub unpaired : is_head spot p ≡ false → list_any p_at (heads spot (pieces rest)) ≡ list_any p_at (heads (after spot p) (pieces more))
+  unpaired is = ap (λ ps. list_any p_at (heads spot ps)) cut
+      ∙ ap (list_any p_at) (if_no (is_head spot p) (p, partner (concat (pieces more))) (heads (after spot p) (pieces more)) is)
 
 -- ---- names
 

@@ -1,12 +1,13 @@
 -- What was taken from a reader, and what it says of all that the reader had.
-use Rattle.std.proofs.Common.{◌≡◌, ◌≢◌, ℕ, ◌+◌, ◌<◌, ◌≤◌, Bool, cond, List, [], ◌++◌, Option, None, Some, OnErr, Result, Ok, Err, length, length-append, append-nil, arith, nat_le, false, ◌∙◌, ap, sym, inl, inr, subst}
+use Rattle.std.proofs.Common.{◌≡◌, ◌≢◌, ℕ, ◌+◌, ◌<◌, ◌≤◌, ◌&&◌, Bool, true, cond, List, [], ◌++◌, Option, None, Some, OnErr, Result, Ok, Err, length, length-append, append-nil, arith, nat_le, false, ◌∙◌, ap, refl, sym, inl, inr}
 use Rattle.std.specs.Prelude.{IfErr, OnOk}
 use Rattle.std.specs.Result.{IsErrAnd}
 use Rattle.std.proofs.KnownBytes.{Consumes-trans}
-use Rattle.std.proofs.lemmas.Bool.{cases_lt}
+use Rattle.std.proofs.lemmas.Bool.{cases_lt, false≢true}
 use Rattle.std.proofs.lemmas.Bool.Decides.{nat_tests}
 use Rattle.std.specs.Io.KnownBytes.{Appends, Consumes}
 use Rattle.ic_output.specs.Output.{AppendsFront}
+use Rattle.ic_text.specs.declared.fault.TextFault.{TextFault}
 use Rattle.ic_streams.specs.Streams.{FaultOf, IsAnswered, OfText}
 use Rattle.ic_streams.specs.declared.fault.StreamFault.{StreamFault}
 use Rattle.ic_streams.specs.declared.fault.StreamFault.TheVariants.{Text, Write}
@@ -16,7 +17,9 @@ use Rattle.ic_expand.specs.declared.fault.ExpandFault.TheVariants.{Refused}
 use Rattle.ic_expand.specs.declared.limits.TheConstants.{MAX_RICH_TEXT}
 use Rattle.ic_expand.specs.Comments.{uncommented}
 use Rattle.ic_expand.specs.Expanding.{body_expanded, expanded}
-use Rattle.ic_expand.specs.Streams.{Expands, TakesSome, TakesWhole, Told, ToldAt}
+use Rattle.ic_expand.specs.Forms.{has_form, have_form}
+use Rattle.ic_expand.specs.Pieces.{pieces}
+use Rattle.ic_expand.specs.Streams.{Expands, IsRefusedWith, IsWrittenAs, TakesSome, TakesWhole}
 
 -- two reads, one after the other
 pub taken_more : {T E : Type 0} (r : Result T E) (a b c : Option (List ℕ)) (xs ys : List ℕ) → Consumes a b xs → Consumes b c ys → length xs + length ys ≤ MAX_RICH_TEXT + 1
@@ -39,10 +42,40 @@ front_expanded front rest end = elim (cases_lt MAX_RICH_TEXT (length front)) [
   | inr short ↦ ap expanded (ap (λ r. front ++ r) (end short) ∙ append-nil front)
 ]
 
-expands_as : (front text : List ℕ) → expanded text ≡ expanded front → (answer : Result (List ℕ) StreamFault) → Expands front answer → Expands text answer
-expands_as front text same (Ok output) s = same ∙ s
-expands_as front text same (Err (Text fault)) s = (s.0, s.1, (same ∙ s.2.0, s.2.1))
-expands_as front text same _ s = absurd s
+-- a text that is too long has no form
+formless : (text : List ℕ) → MAX_RICH_TEXT < length text → has_form text ≡ false
+formless text long = ap (λ (b : Bool). b && have_form 0 (pieces (uncommented text))) (le-false (length text) MAX_RICH_TEXT long)
+
+front_formed : (front rest : List ℕ) → (length front ≤ MAX_RICH_TEXT → rest ≡ []) → has_form (front ++ rest) ≡ has_form front
+front_formed front rest end = elim (cases_lt MAX_RICH_TEXT (length front)) [
+  | inl long ↦ (let more : MAX_RICH_TEXT < length (front ++ rest) = rw length-append (omega arith) in formless (front ++ rest) more ∙ sym (formless front long))
+  | inr short ↦ ap has_form (ap (λ r. front ++ r) (end short) ∙ append-nil front)
+]
+
+-- what some text is expanded to is written of a text with forms, and of any other what it is expanded to
+pub written_formed : (text plain output : List ℕ) → has_form text ≡ true → expanded plain ≡ Ok output → IsWrittenAs text output
+written_formed text plain output has is = (plain, (λ none. absurd (false≢true (sym none ∙ has))), is)
+
+pub written_formless : (text output : List ℕ) → expanded text ≡ Ok output → IsWrittenAs text output
+written_formless text output is = (text, (λ _. refl), is)
+
+written_as : (front text output : List ℕ) → expanded text ≡ expanded front → has_form text ≡ has_form front → IsWrittenAs front output → IsWrittenAs text output
+written_as front text output same forms s = by_form (has_form front) refl
+  where
+    by_form : (b : Bool) → has_form front ≡ b → IsWrittenAs text output
+    by_form true has = written_formed text s.0 output (forms ∙ has) s.2
+    by_form false none = written_formless text output (same ∙ ap expanded (sym (s.1 none)) ∙ s.2)
+
+refused_as : (front text : List ℕ) (fault : TextFault) → expanded text ≡ expanded front → has_form text ≡ has_form front → IsRefusedWith front fault → IsRefusedWith text fault
+refused_as front text fault same forms s = elim s [
+  | inl formed ↦ inl (forms ∙ formed.0, formed.1)
+  | inr told ↦ inr (told.0, told.1, (same ∙ told.2.0, told.2.1))
+]
+
+expands_as : (front text : List ℕ) → expanded text ≡ expanded front → has_form text ≡ has_form front → (answer : Result (List ℕ) StreamFault) → Expands front answer → Expands text answer
+expands_as front text same forms (Ok output) s = written_as front text output same forms s
+expands_as front text same forms (Err (Text fault)) s = refused_as front text fault same forms s
+expands_as front text same forms _ s = absurd s
 
 of_front : (Holds : List ℕ → Type 0) → ((front rest : List ℕ) → (length front ≤ MAX_RICH_TEXT → rest ≡ []) → Holds front → Holds (front ++ rest))
     → (old new : Option (List ℕ)) (front : List ℕ) → TakesWhole front old new → Holds front → OfText old Holds
@@ -55,7 +88,7 @@ module _ {T : Type 0} where
       → IsAnswered Expands front r before after → OfText old (λ text. IsAnswered Expands text r before after)
   of_taken r old new before after front takes a =
       of_front (λ text. IsAnswered Expands text r before after)
-      (λ front rest end h. answered_as Expands r front (front ++ rest) before after (expands_as front (front ++ rest) (front_expanded front rest end)) h) old new front takes a
+      (λ front rest end h. answered_as Expands r front (front ++ rest) before after (expands_as front (front ++ rest) (front_expanded front rest end) (front_formed front rest end)) h) old new front takes a
 
   pub refused_of_taken : (r : Result T StreamFault) (old new before after : Option (List ℕ)) (front seen : List ℕ) (fault : StreamFault)
       → TakesWhole front old new → seen ≡ front → FaultOf Expands seen fault → fault ≢ Write → IsErrAnd r (λ e. e ≡ fault)
@@ -72,16 +105,3 @@ module _ {T : Type 0} where
       of_taken (Ok v) old new before after front takes (answered_written Expands v before after front seen line given is has same appends)
   written_of_taken (Err e) old new before after front seen line given takes is has same appends cut fails =
       of_taken (Err e) old new before after front takes (answered_cut Expands e before after front seen line given is has same cut fails)
-
--- ---- what is told
-
-told_taken : (old new : Option (List ℕ)) (front seen : List ℕ) (fault : StreamFault) (before after : List ℕ) → TakesWhole front old new → seen ≡ front
-    → ToldAt seen fault before after → Told old new fault before after
-told_taken old new front seen (Text fault) before after takes same told = (front, takes, subst (λ (text : List ℕ). ToldAt text (Text fault) before after) same told)
-told_taken old new front seen _ before after takes same told = told
-
-pub told_of_taken : {T : Type 0} (r : Result T StreamFault) (old new : Option (List ℕ)) (front seen : List ℕ) (fault : StreamFault) (before after : List ℕ)
-    → TakesWhole front old new → seen ≡ front → ToldAt seen fault before after → IsErrAnd r (λ e. e ≡ fault) → IfErr r (λ f. Told old new f before after)
-told_of_taken (Ok v) old new front seen fault before after takes same told fails = tt
-told_of_taken (Err e) old new front seen fault before after takes same told fails =
-    subst (λ (f : StreamFault). Told old new f before after) (sym fails) (told_taken old new front seen fault before after takes same told)

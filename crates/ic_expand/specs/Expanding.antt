@@ -1,6 +1,5 @@
 -- The text of the calculus that a text stands for, or why there is none.
-use Rattle.std.specs.Prelude.{ℕ, ◌+◌, ◌==◌, List, [], ◌∷◌, ◌++◌, Bool, true, ◌&&◌, ◌||◌, Option, None, Some, Result, Ok, Err, filter, length, map, nat_le, if◌then◌else◌}
-use Rattle.std.specs.List.{list_any}
+use Rattle.std.specs.Prelude.{ℕ, ◌+◌, ◌==◌, List, [], ◌∷◌, ◌++◌, Bool, true, false, ◌||◌, Option, None, Some, Result, Ok, Err, filter, length, map, nat_le, if◌then◌else◌}
 use Rattle.std.specs.Str.{bytes_eq}
 use Rattle.ic_text.specs.Token.{is_blank}
 use Rattle.ic_term.specs.Symbol.{Symbol, is_symbol_text}
@@ -19,7 +18,7 @@ use Rattle.ic_expand.specs.Comments.{uncommented}
 use Rattle.ic_expand.specs.Pieces.{first_byte, pieces}
 use Rattle.ic_expand.specs.Spots.{after, after_first}
 use Rattle.ic_expand.specs.Reading.{pairs_of, symbols_of}
-use Rattle.ic_expand.specs.Names.{is_among, names_of, spare_of, told_word}
+use Rattle.ic_expand.specs.Names.{is_among, names_of, spare_of, told_word, with_word}
 use Rattle.ic_expand.specs.Generic.{arity_of, generic_rule, in_row, is_wanted}
 
 -- what a text says of its symbols, of the rules that it gives, and of its names
@@ -45,9 +44,10 @@ wanted sheet earlier s = filter (is_wanted sheet.pairs earlier s) sheet.symbols
 abbrev pub rules_of : Sheet → (earlier : List (List ℕ)) → Kind → List ℕ → List (List ℕ)
 rules_of sheet earlier kind s = map (generic_rule kind s) (wanted sheet earlier s)
 
--- whether a text has this symbol with as many arguments as a copier or an eraser has
-abbrev pub has_symbol : List Symbol → Kind → List ℕ → Bool
-has_symbol ss kind s = list_any (λ t. bytes_eq s t.text && t.arity == arity_of kind) ss
+-- whether a copier or an eraser has as many arguments as a symbol has
+abbrev pub is_for : Kind → Option ℕ → Bool
+is_for kind None = false
+is_for kind (Some n) = n == arity_of kind
 
 -- `copy` and `erase` aren't written
 abbrev pub kept_word : Spot → List ℕ → List ℕ
@@ -87,7 +87,7 @@ is_end b = b == 59 || b == 125
 
 -- why a piece is refused that is no blank, if it is
 abbrev pub refused_at : Sheet → (earlier : List (List ℕ)) → Spot → List ℕ → Option Reason
-refused_at sheet earlier (Asked kind) p = if has_symbol sheet.symbols kind p
+refused_at sheet earlier (Asked kind) p = if is_for kind (arity_in sheet.symbols p)
     then unless_some (is_among p earlier) (wanted sheet earlier p)
     else Some (lack_of kind p (arity_in sheet.symbols p))
 refused_at sheet earlier Given p = if is_end (first_byte p) then None else Some NoEnd
@@ -99,7 +99,7 @@ refusal sheet earlier spot p = if is_blank (first_byte p) then None
 
 -- the copiers and erasers with the one that stands here
 abbrev pub with_generic : List (List ℕ) → Spot → List ℕ → List (List ℕ)
-with_generic earlier (Asked kind) p = if is_blank (first_byte p) then earlier else earlier ++ p ∷ []
+with_generic earlier (Asked kind) p = if is_blank (first_byte p) then earlier else with_word earlier p
 with_generic earlier spot p = earlier
 
 -- a text before what follows, unless that is refused

@@ -7,5 +7,6 @@ pub mod Reading
 pub mod Names
 pub mod Generic
 pub mod Expanding
+pub mod Forms
 pub mod Streams
 pub mod inner

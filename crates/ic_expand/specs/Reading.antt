@@ -5,7 +5,6 @@ use Rattle.std.specs.Str.{bytes_eq}
 use Rattle.ic_text.specs.Token.{is_blank}
 use Rattle.ic_term.specs.Symbol.{Symbol, is_symbol_text}
 use Rattle.ic_term.specs.declared.limits.TheConstants.{MAX_WIDE_SYMBOLS}
-use Rattle.ic_rules.specs.declared.limits.TheConstants.{MAX_WIDE_RULES}
 use Rattle.ic_expand.specs.declared.spot.Spot.{Spot}
 use Rattle.ic_expand.specs.declared.spot.Spot.TheVariants.{Elsewhere, Opening, Asked}
 use Rattle.ic_expand.specs.Pieces.{joins}
@@ -68,16 +67,11 @@ abbrev pub is_head : Spot → List ℕ → Bool
 is_head Opening p = is_symbol_text p
 is_head spot p = false
 
--- the two symbols of each rule that is given
+-- the two symbols of each rule that is given, from this place on, and in all
 abbrev pub heads : Spot → List (List ℕ) → List (List ℕ × List ℕ)
 heads spot [] = []
 heads spot (p ∷ ps) = if is_head spot p then (p, partner (concat ps)) ∷ heads (after spot p) ps
     else heads (after spot p) ps
 
--- a pair after others, as long as there are fewer than a system may have rules
-abbrev pub with_pair : List (List ℕ × List ℕ) → List ℕ × List ℕ → List (List ℕ × List ℕ)
-with_pair pairs pair = if nat_lt (length pairs) MAX_WIDE_RULES then pairs ++ pair ∷ [] else pairs
-
--- the same of as many rules as a system may have
 abbrev pub pairs_of : List (List ℕ) → List (List ℕ × List ℕ)
-pairs_of ps = fold with_pair [] (heads Elsewhere ps)
+pairs_of ps = heads Elsewhere ps

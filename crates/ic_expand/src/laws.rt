@@ -3,7 +3,6 @@
 ghost use Rattle.std.specs.Prelude.{◌≡◌, ◌≢◌, ◌<◌, ◌≤◌, ◌+◌, ◌==◌, ℕ, List, [], ◌∷◌, ◌++◌, Contains, Option, Result, Ok, Err, false, true, codes, length};
 ghost use Rattle.std.specs.Io.KnownBytes.{Consumes, IsAtEnd};
 ghost use Rattle.std.specs.List.{concat, list_any, AllByRecursion};
-ghost use Rattle.ic_diagnostics.specs.Lines.{place_lines};
 ghost use Rattle.ic_streams.specs.declared.fault.StreamFault.{StreamFault};
 ghost use Rattle.ic_streams.specs.declared.fault.StreamFault.TheVariants.{Read, Text, Memory, Write};
 ghost use Rattle.ic_text.specs.declared.fault.TextFault.{TextFault};
@@ -23,7 +22,8 @@ ghost use Rattle.ic_expand.specs.Names.{IsRenaming, is_among, is_spelt, names, n
 ghost use Rattle.ic_term.specs.Symbol.{Symbol, fits_limits};
 ghost use Rattle.ic_expand.specs.Generic.{agent_text, annihilated, copied, erased, generic_rule, is_of, rule_text};
 ghost use Rattle.ic_expand.specs.Expanding.{Sheet, expanded, rules_of};
-ghost use Rattle.ic_expand.specs.Streams.{Expands, TakesAt, TakesWhole, Told, ToldAt, reason_sentence, refusal_lines, text_fault};
+ghost use Rattle.ic_expand.specs.Forms.{has_form};
+ghost use Rattle.ic_expand.specs.Streams.{Expands, TakesAt, TakesWhole, text_fault};
 
 /// A comment is `#` and what follows it in its line. The end of the line stays, so that a text has its lines, and texts
 /// that differ in their comments alone mean the same.
@@ -106,6 +106,7 @@ pub fn refusals_by_hand()
     ensures stood_for { expanded (codes "{ erase E; D(a,b)><D(a,b); copy D } <|D(x,y)=E>")
         ≡ Err (Refused NoRules 32) }
     ensures unended { expanded (codes "{ copy D E><F } <|D(x,y)=E>") ≡ Err (Refused NoEnd 9) }
+    ensures unknown { expanded (codes "{ # two\n copy Dup }") ≡ Err (Refused NoSymbol 9) }
     ensures line { expanded (codes " submit a {} <|>") ≡ Err (Refused NoText 1) }
     ensures long { (text : List ℕ) → MAX_RICH_TEXT < length text
         → expanded text ≡ Err (Refused TextBytes MAX_RICH_TEXT) }
@@ -129,15 +130,22 @@ pub fn each_symbol_has_its_rule()
         → Contains (rules_of sheet earlier kind s) (generic_rule kind s t) }
 {}
 
-/// A stream is answered the text for which its text stands, or its refusal, by which only a text that is too long is at a limit.
-/// So a text has one answer.
+/// A stream without forms is answered the text for which its text stands, or its refusal, by which only a text that is too
+/// long is at a limit. So such a text has one answer. One with forms is answered what some text is expanded to.
 pub fn what_is_answered_is_what_is_expanded()
-    ensures written { (text output : List ℕ) → Expands text (Ok output) → expanded text ≡ Ok output }
-    ensures refused { (text : List ℕ) (fault : TextFault) → Expands text (Err (Text fault))
+    ensures written { (text output : List ℕ) → has_form text ≡ false → Expands text (Ok output)
+        → expanded text ≡ Ok output }
+    ensures refused { (text : List ℕ) (fault : TextFault) → has_form text ≡ false
+        → Expands text (Err (Text fault))
         → (reason : Reason) × (at : ℕ) × (expanded text ≡ Err (Refused reason at))
         × (fault ≡ text_fault reason) }
-    ensures one { (text : List ℕ) (one other : Result (List ℕ) StreamFault)
+    ensures one { (text : List ℕ) (one other : Result (List ℕ) StreamFault) → has_form text ≡ false
         → Expands text one → Expands text other → one ≡ other }
+    ensures formed { (text output : List ℕ) → Expands text (Ok output)
+        → (plain : List ℕ) × (expanded plain ≡ Ok output) }
+    ensures forms { has_form (codes "{A><B=>}") ≡ true }
+    ensures separator { has_form (codes "{A><B ; } <|>") ≡ true }
+    ensures formless { has_form (codes "{copy D;A><B} <a,a|D(x,y)=B> # =>") ≡ false }
     ensures limit { text_fault TextBytes ≡ Limit }
     ensures syntax { (reason : Reason) → reason ≢ TextBytes → text_fault reason ≡ Syntax }
 {}
@@ -156,41 +164,4 @@ pub fn what_is_taken_is_the_text()
         → (text : List ℕ) × Consumes old new text × (length text ≤ MAX_RICH_TEXT + 1) }
     ensures memory { (old new : Option (List ℕ)) → TakesAt Memory old new
         → (text : List ℕ) × Consumes old new text × (length text ≤ MAX_RICH_TEXT + 1) }
-{}
-
-/// Of a text that is refused the lines of the place are told, in the text without its comments, or as it is if it is too long.
-/// Of no other fault anything is told.
-pub fn refusals_are_told_with_their_place()
-    ensures told { (text : List ℕ) (fault : TextFault) (before after : List ℕ)
-        → ToldAt text (Text fault) before after
-        → (reason : Reason) × (at : ℕ) × (expanded text ≡ Err (Refused reason at))
-        × (fault ≡ text_fault reason) × (after ≡ before ++ refusal_lines text reason at) }
-    ensures taken { (old new : Option (List ℕ)) (fault : TextFault) (before after : List ℕ)
-        → Told old new (Text fault) before after
-        → (text : List ℕ) × TakesWhole text old new × ToldAt text (Text fault) before after }
-    ensures silent { (old new : Option (List ℕ)) (text : List ℕ) (fault : StreamFault)
-        (before after : List ℕ) → ((refused : TextFault) → fault ≢ Text refused)
-        → (Told old new fault before after → after ≡ before)
-        × (ToldAt text fault before after → after ≡ before) }
-    ensures long { (text : List ℕ) (at : ℕ) → refusal_lines text TextBytes at
-        ≡ place_lines text at (codes "a text has at most 16777216 bytes") }
-    ensures uncommented { (text : List ℕ) (reason : Reason) (at : ℕ) → reason ≢ TextBytes
-        → refusal_lines text reason at ≡ place_lines (uncommented text) at (reason_sentence reason) }
-    ensures copier { reason_sentence (NoCopier 3)
-        ≡ codes "copy needs a symbol with two arguments, and this one has 3 where it stands first" }
-    ensures eraser { reason_sentence (NoEraser 2)
-        ≡ codes "erase needs a symbol without arguments, and this one has 2 where it stands first" }
-    ensures again { reason_sentence Again ≡ codes "an earlier copy or erase has this symbol" }
-    ensures none_left { reason_sentence NoRules ≡ codes "no rule is left for which this stands: "
-        ++ codes "each is given, or an earlier copy or erase stands for it" }
-    ensures symbol { reason_sentence NotSymbol
-        ≡ codes "copy and erase need a symbol: A to Z or 0 to 9, and then letters and digits" }
-    ensures text { reason_sentence NoText ≡ codes "a text begins with { or <, and a comment with #; "
-        ++ codes "lines for serve aren't expanded" }
-    ensures end { reason_sentence NoEnd ≡ codes "; or } is looked for here" }
-    ensures one { expanded (codes "{ # two\n copy Dup }") ≡ Err (Refused NoSymbol 9) }
-    ensures lines { refusal_lines (codes "{ # two\n copy Dup }") NoSymbol 9
-        ≡ codes "line 2, column 7\n     copy Dup }\n          ^\n"
-        ++ codes "copy and erase need a symbol that stands in a term, and this one stands in none: "
-        ++ codes "write it where it has to copy or erase\n" }
 {}

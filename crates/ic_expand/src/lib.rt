@@ -2,14 +2,17 @@
 //!
 //! A rich text may have comments, names of more than one letter, and lines `copy S` and `erase S` among its rules.
 //! `expand` writes it as a text that `ic_text` reads: without comments, with names of the calculus, and with the rules
-//! of S and each symbol in the place of such a line. `expand_stream` does so over a reader and a writer. `laws` says what
-//! is proved of the definitions alone.
+//! of S and each symbol in the place of such a line. `expand_stream` does so over a reader and a writer, and first writes
+//! forms as what they stand for, by `ic_rich`. `laws` says what is proved of the definitions alone.
 #![tactic(auto)]
 
 mod agents;
+mod ahead;
 mod begin;
 mod comments;
 mod fault;
+mod forms;
+mod given;
 pub mod laws;
 mod limits;
 mod names;
@@ -18,6 +21,7 @@ mod reading;
 mod rules;
 mod spot;
 mod stream;
+mod words;
 mod writing;
 
 pub use fault::{ExpandFault, Reason};

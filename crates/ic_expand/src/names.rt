@@ -1,15 +1,15 @@
 //! The names of a text, and what they are written as.
 
-ghost use Rattle.std.specs.Prelude.{◌≡◌, ◌++◌, IfOk, OnOk, map};
+ghost use Rattle.std.specs.Prelude.{◌≡◌, ◌++◌, IfOk, OnOk};
 ghost use Rattle.std.specs.List.{list_all};
 ghost use Rattle.ic_text.specs.Name.{is_name, name_text};
 ghost use Rattle.ic_expand.specs.Pieces.{pieces};
-ghost use Rattle.ic_expand.specs.Names.{is_name_byte, is_named, is_rich_name, is_among, is_spelt, names_of, spare_of, told_word, with_word};
+ghost use Rattle.ic_expand.specs.Names.{is_name_byte, is_named, is_rich_name, is_among, is_spelt, names_of, spare_of, told_word};
 
 use crate::pieces::split_piece;
 use crate::spot::Spot;
+use crate::words::Words;
 use ic_text::{is_numeral, put_name};
-use indexmap::IndexSet;
 use std::alloc::{AllocError, Global};
 
 /// How a name is spelt.
@@ -82,34 +82,22 @@ impl Spot {
     }
 }
 
-/// Adds a name, unless it is there.
-fn add_name(alloc: Global, names: &mut IndexSet<Vec<u8>>, name: &[u8]) -> Result<(), AllocError>
-    ensures { OnOk result (map (λ w. w.items) names.new.keys
-        ≡ with_word (map (λ w. w.items) names.old.keys) name.now) }
-{
-    if !names.contains(name) {
-        names.insert(Vec::from_slice(alloc, name)?)?;
-    }
-    Ok(())
-}
-
 /// The names of a text that are spelt so, by first occurrence.
-pub(crate) fn names_of(
+pub(crate) fn names_of<'a>(
     alloc: Global,
     spelling: Spelling,
-    text: &[u8],
-) -> Result<IndexSet<Vec<u8>>, AllocError>
-    ensures { IfOk result
-        (λ names. map (λ w. w.items) names.keys ≡ names_of spelling (pieces text.now)) }
+    text: &'a [u8],
+) -> Result<Words<'a>, AllocError>
+    ensures { IfOk result (λ names. names ≡ names_of spelling (pieces text.now)) }
 {
-    let mut names = IndexSet::new(alloc);
+    let mut names = Words::new(alloc);
     let mut spot = Spot::Elsewhere;
     let mut rest = text;
     while !rest.is_empty() {
         let (piece, more) = split_piece(rest);
         let next = spot.after(piece);
         if spot.is_named(spelling, piece) {
-            add_name(alloc, &mut names, piece)?;
+            names.add(piece)?;
         }
         spot = next;
         rest = more;
@@ -118,23 +106,17 @@ pub(crate) fn names_of(
 }
 
 /// Whether the name with this number is one of these.
-fn is_taken(alloc: Global, shorts: &IndexSet<Vec<u8>>, number: u64) -> Result<bool, AllocError>
-    ensures { IfOk result
-        (λ taken. taken ≡ is_among (name_text number) (map (λ w. w.items) shorts.now.keys)) }
+fn is_taken(alloc: Global, shorts: &Words, number: u64) -> Result<bool, AllocError>
+    ensures { IfOk result (λ taken. taken ≡ is_among (name_text number) shorts.now) }
 {
     let mut name = Vec::new(alloc);
     put_name(number, &mut name)?;
-    Ok(shorts.contains(name.as_slice()))
+    Ok(shorts.has(&name))
 }
 
 /// Numbers whose names aren't among the short ones: as many as there are long ones, or more.
-pub(crate) fn spare_of(
-    alloc: Global,
-    shorts: &IndexSet<Vec<u8>>,
-    longs: &IndexSet<Vec<u8>>,
-) -> Result<Vec<u64>, AllocError>
-    ensures { IfOk result (λ spare. spare.items
-        ≡ spare_of (map (λ w. w.items) shorts.now.keys) (map (λ w. w.items) longs.now.keys)) }
+pub(crate) fn spare_of(alloc: Global, shorts: &Words, longs: &Words) -> Result<Vec<u64>, AllocError>
+    ensures { IfOk result (λ spare. spare.items ≡ spare_of shorts.now longs.now) }
 {
     let mut spare = Vec::new(alloc);
     for number in 0..shorts.len() as u64 + longs.len() as u64 {
@@ -147,15 +129,15 @@ pub(crate) fn spare_of(
 
 /// Appends what a word is written as, by the long names and the spare numbers.
 pub(crate) fn put_word(
-    longs: &IndexSet<Vec<u8>>,
+    longs: &Words,
     spare: &[u64],
     word: &[u8],
     out: &mut Vec<u8>,
 ) -> Result<(), AllocError>
-    ensures { OnOk result (out.new.items
-        ≡ out.old.items ++ told_word (map (λ w. w.items) longs.now.keys) spare.now word.now) }
+    ensures { OnOk result
+        (out.new.items ≡ out.old.items ++ told_word longs.now spare.now word.now) }
 {
-    match longs.get_index_of(word) {
+    match longs.place(word) {
         None => out.extend_from_slice(word),
         Some(place) => put_name(spare.get(place).copied().unwrap_or(0), out),
     }

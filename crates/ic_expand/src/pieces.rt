@@ -1,7 +1,7 @@
 //! The pieces of a text: its words, and each other byte by itself.
 
-ghost use Rattle.std.specs.Prelude.{◌≡◌, ◌<◌, ◌++◌, ◌∷◌, length};
-ghost use Rattle.std.specs.List.{prefix_len};
+ghost use Rattle.std.specs.Prelude.{◌≡◌, ◌<◌, ◌⊎◌, [], ◌++◌, ◌∷◌, true, length};
+ghost use Rattle.std.specs.List.{list_all, prefix_len};
 ghost use Rattle.ic_expand.specs.Pieces.{first_byte, joins, pieces};
 
 use ic_text::is_word_byte;
@@ -40,6 +40,8 @@ pub(crate) fn split_piece(text: &[u8]) -> (&[u8], &[u8])
     requires { 0 < length text.now }
     ensures pieces { pieces text.now ≡ result.0.now ∷ pieces result.1.now }
     ensures whole { text.now ≡ result.0.now ++ result.1.now }
+    ensures sort { (result.0.now ≡ first_byte result.0.now ∷ [])
+        ⊎ (list_all joins result.0.now ≡ true) }
     ensures shorter { length result.1.now < length text.now }
 {
     let run = run_len(text);

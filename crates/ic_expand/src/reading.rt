@@ -1,14 +1,16 @@
-//! The symbols of a text, and the rules that it gives.
+//! The symbols of a text.
 
-ghost use Rattle.std.specs.Prelude.{◌≡◌, ◌≤◌, IfOk, OnOk, length, map};
-ghost use Rattle.std.specs.List.{fold};
+ghost use Rattle.std.specs.Prelude.{◌≡◌, ◌<◌, ◌-◌, ◌^◌, IfOk, OnOk, get_or, length, map};
+ghost use Rattle.ic_term.specs.Symbol.{texts};
 ghost use Rattle.ic_expand.specs.Pieces.{pieces};
-ghost use Rattle.ic_expand.specs.Reading.{arguments, beyond, commas, is_head, is_known, is_use, leading_word, noted, pairs_of, partner, symbols_of, with_pair};
-ghost use Rattle.ic_expand.specs.inner.Sheets.{pair_in, symbol_in};
+ghost use Rattle.ic_expand.specs.Reading.{is_head, is_use, leading_word, noted, symbols_of};
+ghost use Rattle.ic_expand.specs.inner.Ahead.{arguments_by};
+ghost use Rattle.ic_expand.specs.inner.Sheets.{symbol_in};
 
+use crate::ahead::{counts_of, pass};
 use crate::pieces::{run_len, split_piece};
 use crate::spot::Spot;
-use ic_rules::MAX_WIDE_RULES;
+use crate::words::Words;
 use ic_term::{MAX_WIDE_SYMBOLS, is_symbol};
 use ic_text::is_blank;
 use std::alloc::{AllocError, Global};
@@ -20,51 +22,24 @@ pub(crate) struct Use {
     pub(crate) arity: usize,
 }
 
-/// The two symbols of a rule.
-#[derive(Drop)]
-pub(crate) struct Pair {
-    pub(crate) first: Vec<u8>,
-    pub(crate) second: Vec<u8>,
-}
-
-/// The commas before the `)` that closes.
-fn commas(text: &[u8]) -> usize
-    ensures count { result ≡ commas 0 text.now }
-    ensures few { result ≤ length text.now }
+/// How many commas the first `(` of a text has, by those of each `(`.
+fn first_count(counts: &[usize]) -> usize
+    ensures { result ≡ get_or counts.now (length counts.now - 1) 0 }
 {
-    let mut depth = 0usize;
-    let mut count = 0usize;
-    for byte in text {
-        match *byte {
-            b'(' => depth += 1,
-            b')' => {
-                if depth == 0 {
-                    return count;
-                }
-                depth -= 1;
-            }
-            b',' => {
-                if depth == 0 {
-                    count += 1;
-                }
-            }
-            _ => {}
-        }
+    match counts.last() {
+        Some(count) => *count,
+        None => 0,
     }
-    count
 }
 
-/// The number of arguments with which a text goes on after a symbol.
-fn arguments(text: &[u8]) -> usize
-    ensures { result ≡ arguments text.now }
+/// The number of arguments with which a text goes on after a symbol, where its first `(` has so many commas.
+fn arguments(count: usize, text: &[u8]) -> usize
+    requires { count < 2 ^ 63 }
+    ensures { result ≡ arguments_by count text.now }
 {
-    for (place, byte) in text.iter().enumerate() {
+    for byte in text {
         if !is_blank(*byte) {
-            return if *byte == b'(' {
-                1 + commas(&text[place + 1..])
-            } else {
-                0
-            };
+            return if *byte == b'(' { 1 + count } else { 0 };
         }
     }
     0
@@ -82,7 +57,7 @@ impl Spot {
     }
 
     /// Whether a piece is the first symbol of a rule.
-    fn is_head(self, piece: &[u8]) -> bool
+    pub(crate) fn is_head(self, piece: &[u8]) -> bool
         ensures { result ≡ is_head self piece.now }
     {
         match self {
@@ -92,65 +67,60 @@ impl Spot {
     }
 }
 
-/// Whether a text is that of one of these symbols.
-fn is_known(text: &[u8], symbols: &[Use]) -> bool
-    ensures { result ≡ is_known text.now (map symbol_in symbols.now) }
+/// Notes a symbol after which a text goes on with so many arguments, among those with these texts.
+fn note<'a>(
+    alloc: Global,
+    symbols: &mut Vec<Use>,
+    known: &mut Words<'a>,
+    text: &'a [u8],
+    arity: usize,
+) -> Result<(), AllocError>
+    requires { known.old ≡ texts (map symbol_in symbols.old.items) }
+    ensures noted { OnOk result (map symbol_in symbols.new.items
+        ≡ noted (map symbol_in symbols.old.items) (record { text = text.now; arity = arity })) }
+    ensures known { OnOk result (known.new ≡ texts (map symbol_in symbols.new.items)) }
 {
-    for known in symbols {
-        if text == known.text.as_slice() {
-            return true;
-        }
+    if symbols.len() >= MAX_WIDE_SYMBOLS {
+        return Ok(());
     }
-    false
-}
-
-/// Notes a symbol after which this stands.
-fn note(alloc: Global, symbols: &mut Vec<Use>, text: &[u8], more: &[u8]) -> Result<(), AllocError>
-    ensures { OnOk result (map symbol_in symbols.new.items ≡ noted (map symbol_in symbols.old.items)
-        (record { text = text.now; arity = arguments more.now })) }
-{
-    if symbols.len() < MAX_WIDE_SYMBOLS && !is_known(text, symbols) {
-        symbols.push(Use {
-            text: Vec::from_slice(alloc, text)?,
-            arity: arguments(more),
-        })?;
+    if known.has(text) {
+        return Ok(());
     }
+    known.add(text)?;
+    symbols.push(Use {
+        text: Vec::from_slice(alloc, text)?,
+        arity,
+    })?;
     Ok(())
 }
 
-/// The symbols of a text by first occurrence.
-pub(crate) fn symbols_of(alloc: Global, text: &[u8]) -> Result<Vec<Use>, AllocError>
-    ensures { IfOk result (λ symbols. map symbol_in symbols.items ≡ symbols_of (pieces text.now)) }
+/// The symbols of a text by first occurrence, and their texts.
+pub(crate) fn symbols_of(alloc: Global, text: &[u8]) -> Result<(Vec<Use>, Words<'_>), AllocError>
+    ensures symbols { IfOk result
+        (λ found. map symbol_in found.0.items ≡ symbols_of (pieces text.now)) }
+    ensures known { IfOk result (λ found. found.1 ≡ texts (symbols_of (pieces text.now))) }
 {
     let mut symbols = Vec::new(alloc);
+    let mut known = Words::new(alloc);
+    let mut counts = counts_of(alloc, text)?;
     let mut spot = Spot::Elsewhere;
     let mut rest = text;
     while !rest.is_empty() {
         let (piece, more) = split_piece(rest);
         let next = spot.after(piece);
+        pass(b'(', piece, &mut counts);
         if spot.is_use(piece) {
-            note(alloc, &mut symbols, piece, more)?;
+            let arity = arguments(first_count(&counts), more);
+            note(alloc, &mut symbols, &mut known, piece, arity)?;
         }
         spot = next;
         rest = more;
     }
-    Ok(symbols)
-}
-
-/// What stands in a text after the first such byte.
-fn beyond(mark: u8, text: &[u8]) -> &[u8]
-    ensures { result.now ≡ beyond mark text.now }
-{
-    for (place, byte) in text.iter().enumerate() {
-        if *byte == mark {
-            return &text[place + 1..];
-        }
-    }
-    &text[text.len()..]
+    Ok((symbols, known))
 }
 
 /// The word with which a text begins after its blanks.
-fn leading_word(text: &[u8]) -> &[u8]
+pub(crate) fn leading_word(text: &[u8]) -> &[u8]
     ensures { result.now ≡ leading_word text.now }
 {
     for (place, byte) in text.iter().enumerate() {
@@ -161,56 +131,4 @@ fn leading_word(text: &[u8]) -> &[u8]
         }
     }
     &text[text.len()..]
-}
-
-/// The second symbol of a rule.
-fn partner(text: &[u8]) -> &[u8]
-    ensures { result.now ≡ partner text.now }
-{
-    leading_word(beyond(b'<', beyond(b'>', text)))
-}
-
-/// The pair of a rule's first symbol, and of the second one in what follows it.
-fn pair_with(alloc: Global, first: &[u8], more: &[u8]) -> Result<Pair, AllocError>
-    ensures { IfOk result (λ pair. pair_in pair ≡ (first.now, partner more.now)) }
-{
-    Ok(Pair {
-        first: Vec::from_slice(alloc, first)?,
-        second: Vec::from_slice(alloc, partner(more))?,
-    })
-}
-
-/// Notes the pair of a rule's first symbol, and of the second one in what follows it, as long as there are few.
-fn note_pair(
-    alloc: Global,
-    pairs: &mut Vec<Pair>,
-    first: &[u8],
-    more: &[u8],
-) -> Result<(), AllocError>
-    ensures { OnOk result (map pair_in pairs.new.items
-        ≡ with_pair (map pair_in pairs.old.items) (first.now, partner more.now)) }
-{
-    if pairs.len() < MAX_WIDE_RULES {
-        pairs.push(pair_with(alloc, first, more)?)?;
-    }
-    Ok(())
-}
-
-/// The two symbols of each rule that is given.
-pub(crate) fn pairs_of(alloc: Global, text: &[u8]) -> Result<Vec<Pair>, AllocError>
-    ensures { IfOk result (λ pairs. map pair_in pairs.items ≡ pairs_of (pieces text.now)) }
-{
-    let mut pairs = Vec::new(alloc);
-    let mut spot = Spot::Elsewhere;
-    let mut rest = text;
-    while !rest.is_empty() {
-        let (piece, more) = split_piece(rest);
-        let next = spot.after(piece);
-        if spot.is_head(piece) {
-            note_pair(alloc, &mut pairs, piece, more)?;
-        }
-        spot = next;
-        rest = more;
-    }
-    Ok(pairs)
 }

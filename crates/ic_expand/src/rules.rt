@@ -3,14 +3,17 @@
 ghost use Rattle.std.specs.Prelude.{◌≡◌, ◌<◌, ◌≤◌, ◌^◌, IfOk, filter, map};
 ghost use Rattle.ic_term.specs.Symbol.{fits_limits};
 ghost use Rattle.ic_term.specs.declared.limits.TheConstants.{MAX_ARITY};
-ghost use Rattle.std.specs.List.{list_any};
-ghost use Rattle.ic_expand.specs.Generic.{annihilated, arity_of, copied, erased, generic_rule, is_of, is_wanted};
-ghost use Rattle.ic_expand.specs.Names.{is_among};
-ghost use Rattle.ic_expand.specs.inner.Sheets.{pair_in, symbol_in};
+ghost use Rattle.std.specs.List.{list_any, position};
+ghost use Rattle.std.specs.Str.{bytes_eq};
+ghost use Rattle.ic_expand.specs.Generic.{annihilated, arity_of, copied, erased, generic_rule};
+ghost use Rattle.ic_expand.specs.inner.Sheets.{gives, is_missing, symbol_in};
 
 use crate::agents::{agent, copies, names_from, pair_of, repeated, rule};
-use crate::reading::{Pair, Use};
+use crate::given::is_given;
+use crate::reading::Use;
 use crate::spot::Kind;
+use crate::words::Words;
+use crate::writing::Sheet;
 use ic_term::{MAX_ARITY, MAX_SYMBOL_TEXT};
 use std::alloc::{AllocError, Global};
 
@@ -72,38 +75,6 @@ impl Kind {
     }
 }
 
-/// Whether a rule is of these two symbols.
-fn is_of(one: &[u8], other: &[u8], pair: &Pair) -> bool
-    ensures { result ≡ is_of one.now other.now (pair_in pair.now) }
-{
-    (one == pair.first.as_slice() && other == pair.second.as_slice())
-        || (one == pair.second.as_slice() && other == pair.first.as_slice())
-}
-
-/// Whether one of these rules is of these two symbols.
-fn is_given(one: &[u8], other: &[u8], pairs: &[Pair]) -> bool
-    ensures { result ≡ list_any (is_of one.now other.now) (map pair_in pairs.now) }
-{
-    for pair in pairs {
-        if is_of(one, other, pair) {
-            return true;
-        }
-    }
-    false
-}
-
-/// Whether a word is one of these.
-pub(crate) fn is_among(word: &[u8], words: &[Vec<u8>]) -> bool
-    ensures { result ≡ is_among word.now (map (λ w. w.items) words.now) }
-{
-    for known in words {
-        if word == known.as_slice() {
-            return true;
-        }
-    }
-    false
-}
-
 /// Whether a symbol is within the limits of the calculus.
 fn fits_limits(symbol: &Use) -> bool
     ensures { result ≡ fits_limits symbol.now.text.items symbol.now.arity }
@@ -111,36 +82,59 @@ fn fits_limits(symbol: &Use) -> bool
     symbol.text.len() <= MAX_SYMBOL_TEXT && symbol.arity <= MAX_ARITY
 }
 
-/// Whether a rule of a copier or an eraser with a symbol is to be written.
-pub(crate) fn is_wanted(pairs: &[Pair], earlier: &[Vec<u8>], generic: &[u8], symbol: &Use) -> bool
-    ensures { result ≡ is_wanted (map pair_in pairs.now) (map (λ w. w.items) earlier.now)
-        generic.now (symbol_in symbol.now) }
-{
-    fits_limits(symbol)
-        && !is_given(generic, &symbol.text, pairs)
-        && !is_among(generic, earlier)
-        && !is_among(&symbol.text, earlier)
-}
-
-/// The rules of a copier or an eraser with those of these symbols with which it gets one.
-pub(crate) fn rules_with(
-    alloc: Global,
-    kind: Kind,
-    generic: &[u8],
-    symbols: &[Use],
-    pairs: &[Pair],
-    earlier: &[Vec<u8>],
-) -> Result<Vec<Vec<u8>>, AllocError>
-    ensures { IfOk result (λ rules. map (λ r. r.items) rules.items
-        ≡ map (generic_rule kind generic.now)
-        (filter (is_wanted (map pair_in pairs.now) (map (λ w. w.items) earlier.now) generic.now)
-        (map symbol_in symbols.now))) }
-{
-    let mut rules = Vec::new(alloc);
-    for symbol in symbols {
-        if is_wanted(pairs, earlier, generic, symbol) {
-            rules.push(kind.rule(alloc, generic, symbol)?)?;
+impl<'a> Sheet<'a> {
+    /// Whether a text gives a rule of the symbol at this place and one with this text.
+    fn gives(&self, generic: usize, text: &[u8]) -> bool
+        ensures { result
+            ≡ gives self.now.given generic (position (bytes_eq text.now) self.now.known) }
+    {
+        match self.known.place(text) {
+            None => false,
+            Some(place) => is_given(&self.given, generic, place),
         }
     }
-    Ok(rules)
+
+    /// Whether a rule of a copier or an eraser, which is the symbol at this place, with a symbol is to be written, where
+    /// none is written for it yet.
+    pub(crate) fn is_wanted(&self, earlier: &Words, generic: usize, symbol: &Use) -> bool
+        ensures { result ≡ is_missing self.now earlier.now generic (symbol_in symbol.now) }
+    {
+        fits_limits(symbol) && !earlier.has(&symbol.text) && !self.gives(generic, &symbol.text)
+    }
+
+    /// The rules of a copier or an eraser, which is the symbol at this place, with those symbols with which it gets one, where
+    /// none is written for it yet.
+    pub(crate) fn rules_with(
+        &self,
+        alloc: Global,
+        earlier: &Words,
+        kind: Kind,
+        generic: &[u8],
+        place: usize,
+    ) -> Result<Vec<Vec<u8>>, AllocError>
+        ensures { IfOk result (λ rules. map (λ r. r.items) rules.items
+            ≡ map (generic_rule kind generic.now)
+            (filter (is_missing self.now earlier.now place) (map symbol_in self.now.symbols.items))) }
+    {
+        let mut rules = Vec::new(alloc);
+        for symbol in &self.symbols {
+            if self.is_wanted(earlier, place, symbol) {
+                rules.push(kind.rule(alloc, generic, symbol)?)?;
+            }
+        }
+        Ok(rules)
+    }
+
+    /// Whether it gets one with some symbol.
+    pub(crate) fn wants_some(&self, earlier: &Words, place: usize) -> bool
+        ensures { result ≡ list_any (is_missing self.now earlier.now place)
+            (map symbol_in self.now.symbols.items) }
+    {
+        for symbol in &self.symbols {
+            if self.is_wanted(earlier, place, symbol) {
+                return true;
+            }
+        }
+        false
+    }
 }

@@ -1,16 +1,21 @@
 //! Expanding what a reader gives, and telling of a text that is refused.
 
-ghost use Rattle.std.specs.Prelude.{◌≡◌, ◌≢◌, ◌≤◌, ◌++◌, ◌⊎◌, Ok, IfOk, IfErr, OnOk, OnErr, length};
+ghost use Rattle.std.specs.Prelude.{◌≡◌, ◌≢◌, ◌⊎◌, ℕ, List, Ok, IfOk, IfErr, OnOk, OnErr, true};
 ghost use Rattle.std.specs.Io.KnownBytes.{Keeps};
 ghost use Rattle.ic_streams.specs.Streams.{FaultOf, IsAnswered, OfText};
-ghost use Rattle.ic_expand.specs.Streams.{Expands, TakesAt, TakesSome, TakesText, TakesWhole, Told, ToldAt, counted, reason_sentence, refusal_lines, text_fault, told_text};
+ghost use Rattle.ic_text.specs.declared.fault.TextFault.TheVariants.{Syntax, Limit};
+ghost use Rattle.ic_expand.specs.Expanding.{expanded};
+ghost use Rattle.ic_expand.specs.Forms.{has_form};
+ghost use Rattle.ic_expand.specs.Streams.{Expands, TakesAt, TakesSome, TakesText, TakesWhole, text_fault};
 ghost use Rattle.ic_streams.specs.declared.fault.StreamFault.TheVariants.{Text};
 
 use crate::comments::without_comments;
 use crate::fault::{ExpandFault, Reason};
+use crate::forms::has_form;
 use crate::limits::MAX_RICH_TEXT;
 use crate::writing::expand;
 use ic_diagnostics::place_lines;
+use ic_rich::{RichFault, Unfolded, sentence, unfold};
 use ic_streams::{StreamFault, write_line};
 use ic_text::TextFault;
 use std::alloc::{AllocError, Global};
@@ -38,8 +43,6 @@ pub fn expand_stream<R: Read, W: Write>(
     ensures taken { OnOk result (TakesText (R.remaining reader.old) (R.remaining reader.new)) }
     ensures taken_at_fault { IfErr result
         (λ fault. TakesAt fault (R.remaining reader.old) (R.remaining reader.new)) }
-    ensures told { IfErr result (λ fault. Told (R.remaining reader.old) (R.remaining reader.new) fault
-        told.old.items told.new.items) }
     ensures quiet { OnOk result (told.new.items ≡ told.old.items) }
 {
     let text = read_whole(alloc, reader)?;
@@ -76,7 +79,94 @@ fn read_whole<R: Read>(alloc: Global, reader: &mut R) -> Result<Vec<u8>, StreamF
 fn expanded_text(alloc: Global, text: &[u8], told: &mut Vec<u8>) -> Result<Vec<u8>, StreamFault>
     ensures text { IfOk result (λ out. Expands text.now (Ok out.items)) }
     ensures refused { IfErr result (λ fault. FaultOf Expands text.now fault) }
-    ensures told { IfErr result (λ fault. ToldAt text.now fault told.old.items told.new.items) }
+    ensures quiet { OnOk result (told.new.items ≡ told.old.items) }
+    ensures sort { IfErr result
+        (λ fault. (fault ≢ StreamFault.Write) × (fault ≢ StreamFault.Read)) }
+{
+    match has_form(alloc, text) {
+        Ok(true) => formed_text(alloc, text, told),
+        Ok(false) => formless_text(alloc, text, told),
+        Err(_) => Err(StreamFault::Memory),
+    }
+}
+
+/// What a text with forms is expanded to, or its refusal, of which `told` gets the lines.
+fn formed_text(alloc: Global, text: &[u8], told: &mut Vec<u8>) -> Result<Vec<u8>, StreamFault>
+    ensures text { IfOk result (λ out. (plain : List ℕ) × (expanded plain ≡ Ok out.items)) }
+    ensures refused { IfErr result (λ fault. (fault ≡ StreamFault.Memory)
+        ⊎ (fault ≡ Text Syntax) ⊎ (fault ≡ Text Limit)) }
+    ensures quiet { OnOk result (told.new.items ≡ told.old.items) }
+{
+    let body = without_comments(alloc, text)?;
+    match unfold(alloc, &body) {
+        Ok(written) => unfolded_text(alloc, &body, &written, told),
+        Err(RichFault::Memory) => Err(StreamFault::Memory),
+        Err(RichFault::Refused(reason, at)) => {
+            let sentence = sentence(alloc, reason, body.split_at(at.min(body.len())).1)?;
+            Err(told_fault(alloc, &body, at, &sentence, form_fault(reason), told))
+        }
+    }
+}
+
+/// The fault of a text with forms that is refused.
+fn form_fault(reason: ic_rich::Reason) -> TextFault
+    ensures { (result ≡ Syntax) ⊎ (result ≡ Limit) }
+{
+    if reason.is_limit() {
+        TextFault::Limit
+    } else {
+        TextFault::Syntax
+    }
+}
+
+/// What is expanded of what a text with forms is unfolded to, or its refusal, of which `told` gets the lines.
+fn unfolded_text(
+    alloc: Global,
+    body: &[u8],
+    written: &Unfolded,
+    told: &mut Vec<u8>,
+) -> Result<Vec<u8>, StreamFault>
+    ensures text { IfOk result (λ out. (plain : List ℕ) × (expanded plain ≡ Ok out.items)) }
+    ensures refused { IfErr result (λ fault. (fault ≡ StreamFault.Memory)
+        ⊎ (fault ≡ Text Syntax) ⊎ (fault ≡ Text Limit)) }
+    ensures quiet { OnOk result (told.new.items ≡ told.old.items) }
+{
+    match expand(alloc, written.text()) {
+        Ok(out) => Ok(out),
+        Err(ExpandFault::Memory) => Err(StreamFault::Memory),
+        Err(ExpandFault::Refused(reason, at)) => {
+            let sentence = reason_sentence(alloc, reason)?;
+            let place = written.place_of(at);
+            Err(told_fault(alloc, body, place, &sentence, text_fault(reason), told))
+        }
+    }
+}
+
+/// The fault of a stream whose text is refused so at a place, of which `told` gets the lines. Where memory ran out it gets
+/// nothing.
+fn told_fault(
+    alloc: Global,
+    body: &[u8],
+    at: usize,
+    sentence: &[u8],
+    fault: TextFault,
+    told: &mut Vec<u8>,
+) -> StreamFault
+    ensures fault { (result ≡ StreamFault.Memory) ⊎ (result ≡ Text fault) }
+{
+    match place_lines(alloc, body, at, sentence) {
+        Ok(lines) => match told.extend_from_slice(&lines) {
+            Ok(()) => StreamFault::Text(fault),
+            Err(_) => StreamFault::Memory,
+        },
+        Err(_) => StreamFault::Memory,
+    }
+}
+
+/// What a text without forms is expanded to, or its refusal, of which `told` gets the lines.
+fn formless_text(alloc: Global, text: &[u8], told: &mut Vec<u8>) -> Result<Vec<u8>, StreamFault>
+    ensures text { IfOk result (λ out. expanded text.now ≡ Ok out.items) }
+    ensures refused { IfErr result (λ fault. FaultOf Expands text.now fault) }
     ensures quiet { OnOk result (told.new.items ≡ told.old.items) }
     ensures sort { IfErr result
         (λ fault. (fault ≢ StreamFault.Write) × (fault ≢ StreamFault.Read)) }
@@ -90,11 +180,7 @@ fn expanded_text(alloc: Global, text: &[u8], told: &mut Vec<u8>) -> Result<Vec<u
 
 /// The fault of a stream whose text is refused, of which `told` gets the lines. Where memory ran out it gets nothing.
 fn refused(alloc: Global, text: &[u8], reason: Reason, at: usize, told: &mut Vec<u8>) -> StreamFault
-    requires { at ≤ length (told_text reason text.now) }
     ensures fault { (result ≡ StreamFault.Memory) ⊎ (result ≡ Text (text_fault reason)) }
-    ensures told { result ≢ StreamFault.Memory → told.new.items
-        ≡ told.old.items ++ refusal_lines text.now reason at }
-    ensures unsaid { result ≡ StreamFault.Memory → told.new.items ≡ told.old.items }
 {
     match refusal_lines(alloc, text, reason, at) {
         Ok(lines) => match told.extend_from_slice(&lines) {
@@ -112,10 +198,7 @@ fn refusal_lines(
     text: &[u8],
     reason: Reason,
     at: usize,
-) -> Result<Vec<u8>, AllocError>
-    requires { at ≤ length (told_text reason text.now) }
-    ensures { IfOk result (λ lines. lines.items ≡ refusal_lines text.now reason at) }
-{
+) -> Result<Vec<u8>, AllocError> {
     let sentence = reason_sentence(alloc, reason)?;
     match reason {
         Reason::TextBytes => place_lines(alloc, text, at, &sentence),
@@ -151,9 +234,7 @@ each is given, or an earlier copy or erase stands for it";
 const FIRST: &[u8] = b" where it stands first";
 
 /// What is amiss at the place of a refusal.
-fn reason_sentence(alloc: Global, reason: Reason) -> Result<Vec<u8>, AllocError>
-    ensures { IfOk result (λ words. words.items ≡ reason_sentence reason) }
-{
+fn reason_sentence(alloc: Global, reason: Reason) -> Result<Vec<u8>, AllocError> {
     match reason {
         Reason::TextBytes => Vec::from_slice(alloc, b"a text has at most 16777216 bytes"),
         Reason::NoText => {
@@ -178,9 +259,7 @@ fn reason_sentence(alloc: Global, reason: Reason) -> Result<Vec<u8>, AllocError>
 }
 
 /// What is amiss with a symbol that has so many arguments.
-fn counted(alloc: Global, words: &[u8], count: usize) -> Result<Vec<u8>, AllocError>
-    ensures { IfOk result (λ sentence. sentence.items ≡ counted words.now count) }
-{
+fn counted(alloc: Global, words: &[u8], count: usize) -> Result<Vec<u8>, AllocError> {
     let mut sentence = words.to_vec(alloc)?;
     sentence.extend_from_slice(count.to_string(alloc)?.as_bytes())?;
     sentence.extend_from_slice(FIRST)?;

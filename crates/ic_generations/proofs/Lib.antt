@@ -9,3 +9,4 @@ pub mod Aside
 pub mod Going
 pub mod ByRule
 pub mod Figures
+pub mod Waiting

@@ -35,10 +35,10 @@ one_or_none : (x : Pair) (rest : List Pair) (b : Bool) → length (cond b (x ∷
 one_or_none x rest true = omega arith
 one_or_none x rest false = omega arith
 
-many-cons : (rs : List Rule) (p : Pair) (es : List Pair) → how_many rs (p ∷ es) ≡ cond (is_some (active_pair rs p)) 1 0 + how_many rs es
+pub many-cons : (rs : List Rule) (p : Pair) (es : List Pair) → how_many rs (p ∷ es) ≡ cond (is_some (active_pair rs p)) 1 0 + how_many rs es
 many-cons rs p es = one_or_none p (filter (λ q. is_some (active_pair rs q)) es) (is_some (active_pair rs p))
 
-many-append : (rs : List Rule) (es fs : List Pair) → how_many rs (es ++ fs) ≡ how_many rs es + how_many rs fs
+pub many-append : (rs : List Rule) (es fs : List Pair) → how_many rs (es ++ fs) ≡ how_many rs es + how_many rs fs
 many-append rs [] fs = let nothing : how_many rs [] ≡ 0 = refl in omega (arith, nothing)
 many-append rs (p ∷ es) fs =
     let here = many-cons rs p (es ++ fs) in
@@ -131,7 +131,7 @@ put_fired rs x t base (p ∷ es) set over low inert =
 
 -- ---- one name step
 
-there_is : (x : ℕ) (ns : List ℕ) → 1 ≤ occurrences x ns → (occurs x ns ≡ true) ⊎ (occurs x ns ≡ false) → occurs x ns ≡ true
+pub there_is : (x : ℕ) (ns : List ℕ) → 1 ≤ occurrences x ns → (occurs x ns ≡ true) ⊎ (occurs x ns ≡ false) → occurs x ns ≡ true
 there_is x ns some (inl found) = found
 there_is x ns some (inr lost) = let none = occurrences_none x ns lost in absurd (omega (arith, none, some))
 

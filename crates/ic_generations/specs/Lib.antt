@@ -1,3 +1,4 @@
 pub mod Firings
 pub mod Generations
 pub mod Figures
+pub mod Waiting

@@ -1,12 +1,13 @@
 //! Laws of rounds whose equations fire one after another.
 
-ghost use Rattle.std.specs.Prelude.{◌≡◌, ◌≤◌, ◌+◌, ◌*◌, ℕ, List, [], IsPermutation, IsTrue, length, sum_by};
-ghost use Rattle.ic_term.specs.Tree.{Pair};
+ghost use Rattle.std.specs.Prelude.{◌≡◌, ◌≤◌, ◌+◌, ◌*◌, ◌++◌, ℕ, List, [], IsPermutation, IsTrue, length, sum_by};
+ghost use Rattle.std.specs.List.{list_all};
+ghost use Rattle.ic_term.specs.Tree.{Tree, Pair};
 ghost use Rattle.ic_term.specs.Configuration.{Configuration, configuration_nodes, configuration_names};
 ghost use Rattle.ic_term.specs.Symbol.{Symbol, is_over};
 ghost use Rattle.ic_rules.specs.RuleSet.{Rules, IsRuleSet};
 ghost use Rattle.ic_settle.specs.Settling.{settled};
-ghost use Rattle.ic_settle.specs.NameSteps.{NameSteps};
+ghost use Rattle.ic_settle.specs.NameSteps.{NameStep, NameSteps};
 ghost use Rattle.ic_round.specs.Naming.{HasNames};
 ghost use Rattle.ic_round.specs.Firing.{fired};
 ghost use Rattle.ic_round.specs.Interactions.{active_equations};
@@ -19,6 +20,7 @@ ghost use Rattle.ic_reaching.specs.OneNet.{OneNet, SameButNext};
 ghost use Rattle.ic_generations.specs.Figures.{amount, amount_made, amount_spent, arity_of};
 ghost use Rattle.ic_generations.specs.Firings.{FireInTurn, rules_of};
 ghost use Rattle.ic_generations.specs.Generations.{Generation, whole, without_now, Goes};
+ghost use Rattle.ic_generations.specs.Waiting.{are_agents, arguments_in};
 
 /// The active equations of a configuration fire one after another, each once, in any order and by
 /// any fresh names: this makes the net in which all of them have fired at once. Each order is
@@ -72,7 +74,9 @@ pub fn where_names_begin_is_no_matter_to_rounds()
 }
 
 /// Indirections and collects never make fewer equations active. Those that make no more may be
-/// taken before the active equations fire, or after.
+/// taken before the active equations fire, or after. While they are taken, equations of two agents
+/// may stand by their arguments in the interface: if no other equation is active in the end, as
+/// many are active as at first.
 pub fn name_steps_may_wait_for_a_round()
     ensures active { (rs : Rules) (c d : Configuration) → NameSteps c d
         → length (active_equations rs.rules c) ≤ length (active_equations rs.rules d) }
@@ -87,6 +91,21 @@ pub fn name_steps_may_wait_for_a_round()
         → IsTrue (is_over rs.symbols c) → HasNames c → NameSteps c d
         → length (active_equations rs.rules d) ≡ length (active_equations rs.rules c)
         → Same (round rs.rules c) (round rs.rules d) }
+    ensures elsewhere { (rs : Rules) (ts : List Tree) (es rest : List Pair) (next : ℕ)
+        (end : Configuration) → IsTrue (list_all are_agents es)
+        → NameSteps (record {
+          interface = arguments_in es ++ ts;
+          equations = rest;
+          next = next;
+        }) end → ((f : Configuration) → ¬ NameStep end f) → IsTrue (is_inert rs.rules end)
+        → (d : Configuration)
+        × NameSteps (record { interface = ts; equations = es ++ rest; next = next }) d
+        × ((f : Configuration) → ¬ NameStep d f)
+        × (length (active_equations rs.rules d) ≡ length (active_equations rs.rules (record {
+          interface = ts;
+          equations = es;
+          next = next;
+        }))) }
 {
     ic_confluence::laws::every_order_settles_to_the_same_net();
 }

@@ -1,5 +1,5 @@
 -- Lemmas: what a machine holds is reached.
-use Rattle.std.proofs.Common.{◌≡◌, inl, inr, ℕ, suc, ◌+◌, ◌<◌, List, [], ◌∷◌, ◌++◌, Some, length, map, slice_get, slice_index_or, sum_by, refl, sym, ap, ◌∙◌, arith, subst as transport}
+use Rattle.std.proofs.Common.{◌≡◌, ℕ, ◌+◌, ◌<◌, List, [], ◌∷◌, ◌++◌, Some, length, map, slice_get, sum_by, refl, sym, ap, ◌∙◌, arith, subst as transport}
 use Rattle.std.specs.List.{AllByRecursion}
 use Rattle.std.specs.Prelude.{IsTrue, ◌↔◌}
 use Rattle.ic_term.specs.Configuration.{Configuration, configuration_names, occurrences}
@@ -26,8 +26,7 @@ use Rattle.ic_meaning.specs.Words.{Numbers, AreNumbers}
 use Rattle.ic_meaning.specs.Nets.{net_of, AreNetPieces, IsStuckPiece}
 use Rattle.ic_meaning.specs.Plans.{ArePlansOf, StandsForNet, rule_number}
 use Rattle.ic_in_place.proofs.Onward.{all_of_both}
-use Rattle.ic_in_place.specs.Holding.{AreGiven, AreCompiled, HasRun, Holds, HasEnded, WereThere}
-use Rattle.ic_in_place.specs.lemmas.There.{ran_used, there_in_net, used_there, were_on}
+use Rattle.ic_in_place.specs.Holding.{AreGiven, AreCompiled, HasRun, Holds, HasEnded}
 
 -- what the laws say that this one builds on
 pub record HeldLaws : Type 0 where
@@ -94,37 +93,6 @@ held_so laws rs numbers p c given plan operands m set over named compiled run =
       reached = here;
       free = given_kept given c (net_of n m.interface (pieces m)) (laws.free rs c (net_of n m.interface (pieces m)) all set over named here) compiled.free;
     }
-
--- A machine that has run has no more places for agents of a symbol than were there.
-pub used_so : HeldLaws → (rs : Rules) (numbers : List ℕ) (p : Plans) (c : Configuration) (given : List ℕ) (plan : Planned) (operands : List ℕ) (m : Net)
-    → IsRuleSet rs → IsTrue (is_over rs.symbols c) → HasNames c → AreCompiled rs numbers p c given plan operands
-    → (run : HasRun p (length given) plan operands m) → (symbol : ℕ)
-    → WereThere rs c (map (rule_number numbers) run.ran.fired) symbol (slice_index_or m.agents symbol 0)
-used_so laws rs numbers p c given plan operands m set over named compiled run symbol =
-    let start = run.starts in
-    let i : List Word = run.first.interface in
-    let count : ℕ = slice_index_or m.agents symbol 0 in
-    let begun = laws.begun p.arities given c plan operands i start.first compiled.few named compiled.is_plan compiled.stands start.begins in
-    let n : Numbers = begun.0 in
-    let apart : IsSeparate p.arities i start.first = separate_before p i start.first (pieces run.first) start.steps run.separate in
-    let are : AreNetPieces p.arities i start.first = laws.first p.arities (length given) plan operands i start.first compiled.is_plan start.begins apart in
-    let from : Reaches rs.rules c (net_of n i start.first) [] = laws.net rs.rules c c (net_of n i start.first) [] (laws.itself rs.rules c named) begun.4 in
-    elim (ran_used p run.first m (suc symbol) run.ran) [
-      | inl e ↦ were_on rs c [] (map (rule_number numbers) run.ran.fired) symbol count (record {
-        net = net_of n i start.first;
-        before = [];
-        after = [];
-        parts = refl;
-        reached = from;
-        enough = (let there = there_in_net n p.arities symbol i start.first are.each in
-            let as_many = start.places (suc symbol) in
-            omega (arith, there, as_many, e));
-      })
-      | inr at ↦ transport (λ (l : List ℕ). WereThere rs c (map (rule_number numbers) l) symbol count) (sym at.parts)
-          (used_there laws.reached laws.kept rs numbers p n c i [] at.before at.after start.first at.moment symbol count
-          set over named compiled.plans compiled.of_rules begun.3 begun.1 are from
-          (steps_through p [] at.before start.first (pieces run.first) at.moment start.steps at.steps) (let same = at.used in omega (arith, same)))
-    ]
 
 stuck_pieces : (p : Plans) (es : List Equation) → AllByRecursion (IsStuck p) es → AllByRecursion (IsStuckPiece p) (map equated_of es)
 stuck_pieces p [] all = tt

@@ -1,5 +1,5 @@
 -- Lemmas: how many steps put a term for a name, by the equations that there are.
-use Rattle.std.proofs.Common.{◌≡◌, ◌≢◌, ℕ, zero, suc, ◌+◌, ◌*◌, ◌-◌, ◌^◌, ◌<◌, ◌≤◌, ◌==◌, List, [], ◌∷◌, ◌++◌, Bool, true, cond, Option, None, Some, IsTrue, drop, length, map, sum_by, count_by, slice_get, slice_index_or, refl, sym, ap, ◌∙◌, arith, zero-add, subst as transport}
+use Rattle.std.proofs.Common.{◌≡◌, ◌≢◌, ℕ, zero, suc, ◌+◌, ◌*◌, ◌^◌, ◌<◌, ◌≤◌, ◌==◌, List, [], ◌∷◌, ◌++◌, Bool, true, cond, Option, None, Some, IsTrue, drop, length, map, sum_by, count_by, slice_get, slice_index_or, refl, sym, ap, ◌∙◌, arith, zero-add, subst as transport}
 use Rattle.std.specs.Prelude.{IsPermutation, SomeIff}
 use Rattle.std.specs.List.{AllByRecursion, list_all}
 use Rattle.std.specs.Option.{option_map_or}
@@ -27,7 +27,7 @@ use Rattle.ic_round.specs.lemmas.ActiveRules.{FitsRule, oriented_rule, rule_with
 use Rattle.ic_confluence.specs.Kinds.{Kind, naming, firing, Chain}
 use Rattle.ic_reaching.specs.OneNet.{SameButNext}
 use Rattle.ic_reaching.specs.Reaching.{Reaches, rules_fired}
-use Rattle.ic_in_place.specs.Counting.{AreCounts, AreNameSteps, TellsNameSteps, arguments_at, name_steps, names_at}
+use Rattle.ic_in_place.specs.Counting.{AreCounts, AreNameSteps, TellsNameSteps, arguments_at, name_steps}
 use Rattle.ic_in_place.specs.declared.running.End.{End}
 use Rattle.ic_in_place.specs.declared.running.End.TheVariants.{Quiet, Steps, Nodes, Limit, Memory}
 use Rattle.ic_in_place.specs.Summing.{made_from}
@@ -267,46 +267,6 @@ made_so rs fired by_rule counts =
     ∙ (weighted_same (map size rs) (λ i. slice_index_or by_rule i 0) (λ i. count_by (λ j. j == i) fired) 0
     (λ i low high. counts.each i (omega (arith, high, many)))
     ∙ weighted_fired (map size rs) fired)
-
--- the names of rules that fire so often, from a place on
-abbrev pub names_from : List Rule → List ℕ → ℕ → ℕ
-names_from [] counts k = 0
-names_from (r ∷ rs) counts k = slice_index_or counts k 0 * r.names + names_from rs counts (k + 1)
-
-abbrev names_of : Rule → ℕ
-names_of r = r.names
-
-names_weighted : (rs : List Rule) (counts : List ℕ) (k : ℕ) → names_from rs counts k ≡ weighted (map names_of rs) (λ i. slice_index_or counts i 0) k
-names_weighted [] counts k = refl
-names_weighted (r ∷ rs) counts k = let there = names_weighted rs counts (k + 1) in omega (arith, there)
-
--- as many as 64 bits count
-abbrev pub most : ℕ
-most = 2 ^ 64 - 1
-
--- the names of the rules that fired, by how often each fired
-pub names_so : (rs : List Rule) (fired by_rule : List ℕ) → AreCounts (length rs) fired by_rule → names_from rs by_rule 0 ≡ sum_by (names_at rs) fired
-names_so rs fired by_rule counts =
-    let many : length (map names_of rs) ≡ length rs = length-map rs names_of in
-    names_weighted rs by_rule 0
-    ∙ (weighted_same (map names_of rs) (λ i. slice_index_or by_rule i 0) (λ i. count_by (λ j. j == i) fired) 0
-    (λ i low high. counts.each i (omega (arith, high, many)))
-    ∙ weighted_fired (map names_of rs) fired)
-
--- the names that one more rule has
-pub names_step : (rs : List Rule) (counts : List ℕ) (i : ℕ) (r : Rule) → i < length rs → r ≡ slice_index_or rs i r
-    → names_from (drop i rs) counts i ≡ slice_index_or counts i 0 * r.names + names_from (drop (i + 1) rs) counts (i + 1)
-names_step rs counts i r low is =
-    let next : suc i ≡ i + 1 = omega arith in
-    let parts : drop i rs ≡ r ∷ drop (i + 1) rs = drop-cons rs i r low ∙ ((λ j. sym is j ∷ drop (next j) rs)) in
-    ap (λ l. names_from l counts i) parts
-
--- no rule is left
-pub no_names : (k : ℕ) (rs : List Rule) (counts : List ℕ) (i : ℕ) → length rs ≤ k → names_from (drop k rs) counts i ≡ 0
-no_names zero [] counts i low = refl
-no_names (suc k) [] counts i low = refl
-no_names zero (r ∷ rs) counts i low = absurd (omega (arith, low))
-no_names (suc k) (r ∷ rs) counts i low = no_names k rs counts i (omega (arith, low))
 
 -- ---- all together
 

@@ -1,5 +1,5 @@
 -- Lemmas: what is read back where no pair is left is put together.
-use Rattle.std.proofs.Common.{◌≡◌, ℕ, zero, suc, ◌+◌, ◌*◌, ◌≤◌, List, [], ◌∷◌, ◌++◌, length, take, drop, refl, sym, ap, ◌∙◌, arith, subst as transport}
+use Rattle.std.proofs.Common.{◌≡◌, ℕ, zero, suc, ◌+◌, ◌*◌, ◌≤◌, List, [], ◌∷◌, ◌++◌, length, take, drop, refl, sym, arith, ◌∙◌, zero-add, subst as transport}
 use Rattle.std.specs.List.{AllByRecursion}
 use Rattle.std.proofs.lemmas.List.{length-append, take-append-drop}
 use Rattle.std.proofs.lemmas.List.Concat.{flat_map-append}
@@ -12,15 +12,16 @@ use Rattle.ic_round.specs.Naming.{HasNames}
 use Rattle.ic_round.specs.Quiet.{IsQuiet}
 use Rattle.ic_arena.specs.declared.word.Word.{Word}
 use Rattle.ic_machine.specs.declared.equation.Equation.{Equation}
-use Rattle.ic_machine.specs.Net.{Net, equations_left, IsPair, IsStuck}
+use Rattle.ic_machine.specs.Net.{Net, IsPair, IsStuck}
 use Rattle.ic_machine.specs.Plan.{Plans}
 use Rattle.ic_meaning.specs.Words.{Numbers, AreNumbers}
 use Rattle.ic_meaning.specs.Plans.{ArePlansOf}
 use Rattle.ic_readback.specs.declared.token.Token.{Token}
 use Rattle.ic_readback.specs.Reading.{flat_words, configuration_read, HeadIs, BeginAs, sides_of, AreCirclesAfter, IsCircle as IsReadCircle}
 use Rattle.ic_in_place.specs.Holding.{AreGiven}
-use Rattle.ic_in_place.specs.Reducing.{IsAgentOrFree, IsCircle, HasEnds}
+use Rattle.ic_in_place.specs.Reducing.{IsAgentOrFree, IsCircle, IsPutTogether}
 use Rattle.ic_in_place.proofs.Interacts.{begin_after}
+use Rattle.ic_in_place.proofs.Onward.{all_of_both}
 
 -- ---- the pairs
 
@@ -37,13 +38,6 @@ all_ends n c (e ∷ es) (t ∷ u ∷ ts) are pairs begin = (
   (free_head n c e.left t are (begin.0 pairs.0.0), free_head n c e.right u are (begin.1.0 pairs.0.1)),
   all_ends n c es ts are pairs.1 begin.1.1,
 )
-
--- they are as many as the equations that were read
-all_read : (n : Numbers) (es : List Equation) (ts : List Tree) → BeginAs n (sides_of es) ts → length (take (length es) (pairs_of ts)) ≡ length es
-all_read n [] ts begin = refl
-all_read n (e ∷ es) [] begin = absurd begin
-all_read n (e ∷ es) (t ∷ []) begin = absurd begin.1
-all_read n (e ∷ es) (t ∷ u ∷ ts) begin = ap suc (all_read n es ts begin.1.1)
 
 -- pairs, and others that are stuck
 pub all_pairs : (p : Plans) (es fs : List Equation) → AllByRecursion IsPair es → AllByRecursion (IsStuck p) fs → AllByRecursion IsPair (es ++ fs)
@@ -76,7 +70,7 @@ all_circles n c (e ∷ es) sound are named all = (circle_so n c e sound are name
 pub put_together : (n : Numbers) (m : Net) (ts : List Token) (terms : ℕ) → AreNumbers n → AllByRecursion IsPair (m.pending ++ m.aside)
     → terms ≡ length m.interface → BeginAs n (m.interface ++ (sides_of m.pending ++ sides_of m.aside)) (forest (flat_words n ts))
     → AreCirclesAfter n (length m.pending + length m.aside) (configuration_read n ts terms)
-    → HasNames (configuration_read n ts terms) → AreGiven n.given (configuration_read n ts terms) → HasEnds (configuration_read n ts terms) (equations_left m)
+    → HasNames (configuration_read n ts terms) → AreGiven n.given (configuration_read n ts terms) → IsPutTogether (configuration_read n ts terms)
 put_together n m ts terms sound pairs counted begin circles named are =
     let c : Configuration = configuration_read n ts terms in
     let F : List Tree = forest (flat_words n ts) in
@@ -85,16 +79,14 @@ put_together n m ts terms sound pairs counted begin circles named are =
     let all : BeginAs n (sides_of es) (drop terms F) =
     transport (λ l. BeginAs n l (drop terms F)) (sym (flat_map-append (λ (e : Equation). e.left ∷ e.right ∷ []) m.pending m.aside))
     (transport (λ (k : ℕ). BeginAs n (sides_of m.pending ++ sides_of m.aside) (drop k F)) (sym counted)
-    (begin_after n m.interface (sides_of m.pending ++ sides_of m.aside) F begin)) in (
-      record {
-        ends = take K c.equations;
-        circles = drop K c.equations;
-        parts = sym (take-append-drop K c.equations);
-        are_ends = all_ends n c es (drop terms F) are pairs all;
-        are_circles = all_circles n c (drop K c.equations) sound are named (transport (λ (k : ℕ). AreCirclesAfter n k c) (sym (length-append m.pending m.aside)) circles);
-      },
-      all_read n es (drop terms F) all ∙ length-append m.pending m.aside,
-    )
+    (begin_after n m.interface (sides_of m.pending ++ sides_of m.aside) F begin)) in
+    record {
+      ends = take K c.equations;
+      circles = drop K c.equations;
+      parts = sym (take-append-drop K c.equations);
+      are_ends = all_ends n c es (drop terms F) are pairs all;
+      are_circles = all_circles n c (drop K c.equations) sound are named (transport (λ (k : ℕ). AreCirclesAfter n k c) (sym (length-append m.pending m.aside)) circles);
+    }
 
 -- what the law says of what is read of stuck pairs
 abbrev pub StuckLaw : Type 0
@@ -104,13 +96,24 @@ StuckLaw = (rs : Rules) (numbers : List ℕ) (p : Plans) (n : Numbers) (m : Net)
     → AreCirclesAfter n (length m.pending + length m.aside) (configuration_read n ts (length m.interface)) → AreGiven n.given (configuration_read n ts (length m.interface))
     → IsQuiet rs.rules (configuration_read n ts (length m.interface))
 
+-- the sides of pending pairs and of those that are aside, as if all were aside
+sides_aside : (es ds : List Equation) → sides_of es ++ sides_of ds ≡ sides_of (es ++ ds)
+sides_aside es ds = sym (flat_map-append (λ (e : Equation). e.left ∷ e.right ∷ []) es ds)
+
 -- what was read is quiet
 pub quiet_read : StuckLaw → (rs : Rules) (numbers : List ℕ) (p : Plans) (n : Numbers) (m : Net) (ts : List Token) (terms equations : ℕ) → IsRuleSet rs → ArePlansOf rs numbers p → AreNumbers n
-    → m.pending ≡ [] → AllByRecursion (IsStuck p) m.aside → terms ≡ length m.interface
+    → AllByRecursion (IsStuck p) m.pending → AllByRecursion (IsStuck p) m.aside → terms ≡ length m.interface
     → BeginAs n (m.interface ++ (sides_of m.pending ++ sides_of m.aside)) (forest (flat_words n ts)) → length (forest (flat_words n ts)) ≡ terms + 2 * equations
     → AreCirclesAfter n (length m.pending + length m.aside) (configuration_read n ts terms)
     → HasNames (configuration_read n ts terms) → AreGiven n.given (configuration_read n ts terms) → IsQuiet rs.rules (configuration_read n ts terms)
-quiet_read law rs numbers p n m ts terms equations set plans sound none stuck counted begin long circles named are =
-    transport (λ (k : ℕ). length (forest (flat_words n ts)) ≡ k + 2 * equations → AreCirclesAfter n (length m.pending + length m.aside) (configuration_read n ts k)
+quiet_read law rs numbers p n m ts terms equations set plans sound pending stuck counted begin long circles named are =
+    let all : List Equation = m.pending ++ m.aside in
+    let other : Net = record m { pending = []; aside = all } in
+    let aside : AllByRecursion (IsStuck p) all = all_of_both (IsStuck p) m.pending m.aside pending stuck in
+    let sides : BeginAs n (m.interface ++ sides_of all) (forest (flat_words n ts)) =
+    transport (λ ws. BeginAs n (m.interface ++ ws) (forest (flat_words n ts))) (sides_aside m.pending m.aside) begin in
+    let many : length m.pending + length m.aside ≡ length {A = Equation} [] + length all = sym (length-append m.pending m.aside) ∙ sym (zero-add (length all)) in
+    transport (λ (k : ℕ). length (forest (flat_words n ts)) ≡ k + 2 * equations → AreCirclesAfter n (length {A = Equation} [] + length all) (configuration_read n ts k)
     → HasNames (configuration_read n ts k) → AreGiven n.given (configuration_read n ts k) → IsQuiet rs.rules (configuration_read n ts k)) (sym counted)
-    (λ long circles named are. law rs numbers p n m ts equations set plans sound none stuck begin long named circles are) long circles named are
+    (λ long circles named are. law rs numbers p n other ts equations set plans sound refl aside sides long named circles are) long
+    (transport (λ (k : ℕ). AreCirclesAfter n k (configuration_read n ts terms)) many circles) named are

@@ -22,10 +22,6 @@ name_steps (firing i ∷ kinds) = name_steps kinds
 abbrev pub arguments_at : List Rule → ℕ → ℕ
 arguments_at rs i = slice_index_or (map (λ r. length (r.left_args ++ r.right_args)) rs) i 0
 
--- how many names the rule at a place has
-abbrev pub names_at : List Rule → ℕ → ℕ
-names_at rs i = slice_index_or (map (λ r. r.names) rs) i 0
-
 -- Of the steps of some order, from a configuration to where no step is possible, so many put a term for a name.
 pub record AreNameSteps (rs : List Rule) (c : Configuration) (n : ℕ) : Type 0 where
   pub kinds : List Kind

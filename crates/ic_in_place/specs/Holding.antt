@@ -1,5 +1,5 @@
 -- What a machine holds that began with a configuration.
-use Rattle.std.specs.Prelude.{◌≡◌, ◌↔◌, ℕ, ◌+◌, ◌<◌, ◌≤◌, List, [], ◌++◌, Some, length, map, slice_get, slice_index_or, sum}
+use Rattle.std.specs.Prelude.{◌≡◌, ◌↔◌, ℕ, ◌<◌, List, [], Some, length, slice_get}
 use Rattle.std.specs.List.{AllByRecursion}
 use Rattle.ic_term.specs.Configuration.{Configuration, configuration_names, occurrences}
 use Rattle.ic_rules.specs.RuleSet.{Rules}
@@ -7,15 +7,13 @@ use Rattle.ic_round.specs.Naming.{HasNames}
 use Rattle.ic_reaching.specs.OneNet.{OneNet}
 use Rattle.ic_reaching.specs.Reaching.{Reaches}
 use Rattle.ic_arena.specs.declared.word.TheConstants.{GIVEN}
-use Rattle.ic_machine.specs.Net.{Net, pieces, IsAtPlace, IsPair}
+use Rattle.ic_machine.specs.Net.{Net, pieces, IsAtPlace}
 use Rattle.ic_machine.specs.Plan.{Planned, Plans, ArePlans, IsPlan}
 use Rattle.ic_machine.specs.Runs.{Starts, Ran}
 use Rattle.ic_machine.specs.Separate.{IsSeparate}
 use Rattle.ic_meaning.specs.Words.{Numbers, AreNumbers}
 use Rattle.ic_meaning.specs.Nets.{net_of, AreNetPieces}
-use Rattle.ic_meaning.specs.Plans.{ArePlansOf, StandsForNet, rule_number}
-use Rattle.ic_in_place.specs.Agents.{agents_of_symbol}
-use Rattle.ic_in_place.specs.Running.{IsWatched}
+use Rattle.ic_meaning.specs.Plans.{ArePlansOf, StandsForNet}
 
 -- these are the names that occur once
 abbrev pub AreGiven : List ℕ → Configuration → Type 0
@@ -52,41 +50,9 @@ pub record Holds (rs : Rules) (p : Plans) (c : Configuration) (given fired : Lis
   pub reached : Reaches rs.rules c (net_of numbers m.interface (pieces m)) fired
   pub free : AreGiven given (net_of numbers m.interface (pieces m))
 
--- So many agents of this symbol were there at once: in a configuration that the first of these interactions lead to.
-pub record WereThere (rs : Rules) (c : Configuration) (fired : List ℕ) (symbol count : ℕ) : Type 0 where
-  pub net : Configuration
-  pub before : List ℕ
-  pub after : List ℕ
-  pub parts : fired ≡ before ++ after
-  pub reached : Reaches rs.rules c net before
-  pub enough : count ≤ agents_of_symbol symbol net
-
--- A machine that has so many places, of names and for agents, the free ones too, holds one net with an answer. No more
--- pieces are at them than there are places: places hold no equation, and no side of a pending one is a name of the net. It
--- began with the configuration, and these rules are those of the plans that fired since. Its places were watched on the way,
--- and of each symbol it has no more than there were agents at once.
-pub record IsHeldAt (rs : Rules) (c answer : Configuration) (fired : List ℕ) (places nodes : ℕ) : Type 0 where
-  pub machine : Net
-  pub first : Net
-  pub plans : Plans
-  pub rule_numbers : List ℕ
-  pub given : List ℕ
-  pub plan : Planned
-  pub operands : List ℕ
-  pub compiled : AreCompiled rs rule_numbers plans c given plan operands
-  pub starts : Starts plans (length given) plan operands first
-  pub none : first.interactions ≡ 0
-  pub no_aside : first.aside ≡ []
-  pub watched : IsWatched plans nodes first machine
-  pub by_plans : fired ≡ map (rule_number rule_numbers) (watched.before ++ watched.after.fired)
-  pub held : Holds rs plans c given fired machine
-  pub begun : Holds rs plans c given [] first
-  pub one_net : OneNet (net_of held.numbers machine.interface (pieces machine)) answer
-  pub all : places ≡ machine.names + sum machine.agents
-  pub enough : length machine.places ≤ places
-  pub tables : AllByRecursion IsAtPlace machine.places
-  pub pairs : AllByRecursion IsPair machine.pending
-  pub used : (symbol : ℕ) → WereThere rs c fired symbol (slice_index_or machine.agents symbol 0)
+-- The net that a machine holds, by the numbers of its places, is one with this configuration.
+abbrev pub IsNetOf : Numbers → Net → Configuration → Type 0
+IsNetOf numbers m d = OneNet (net_of numbers m.interface (pieces m)) d
 
 -- No pair is left to be looked at, and places hold no equation.
 pub record HasEnded (m : Net) : Type 0 where

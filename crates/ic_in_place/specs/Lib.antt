@@ -6,5 +6,6 @@ pub mod Counting
 pub mod Reducing
 pub mod Reductions
 pub mod inner
-pub mod Agents
 pub mod lemmas
+pub mod Rounds
+pub mod Told

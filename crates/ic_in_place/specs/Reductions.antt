@@ -14,13 +14,23 @@ use Rattle.ic_text.specs.declared.limits.Limits.{Limits}
 use Rattle.ic_streams.specs.Streams.{Answering, answering, line_of}
 use Rattle.ic_streams.specs.Stuck.{stuck_text}
 use Rattle.ic_in_place.specs.Counting.{TellsNameSteps}
-use Rattle.ic_in_place.specs.Reducing.{HasPlaces, IsComeTo, IsPutTogether, IsReachedBy}
+use Rattle.ic_in_place.specs.Reducing.{IsPutTogether, IsReached, Writes}
+use Rattle.ic_in_place.specs.declared.reducing.Reduced.{Reduced}
 use Rattle.ic_in_place.specs.declared.running.Bounds.{Bounds}
 use Rattle.ic_in_place.specs.declared.running.End.{End}
 use Rattle.ic_in_place.specs.declared.running.End.TheVariants as end
 use Rattle.ic_in_place.specs.declared.stream.Outcome.{Outcome}
 use Rattle.ic_in_place.specs.declared.stream.Asked.{Asked}
 use Rattle.ic_in_place.specs.declared.stream.Asked.TheVariants.{Answer, AlsoPart, Nothing}
+
+-- A system was reduced to what is told, by however many threads: its words write what was reached.
+abbrev pub IsReducedTo : SystemParts → Bounds → Reduced → Type 0
+IsReducedTo s bounds reduced = (answer : Configuration)
+    × IsReached s bounds answer reduced.end reduced.interactions reduced.by_rule.items
+    × IsPutTogether answer
+    × TellsNameSteps s.rules.rules s.config reduced.interactions (length answer.equations)
+    reduced.end reduced.name_steps
+    × Writes s.rules.symbols reduced.words.items reduced.terms reduced.equations answer
 
 -- whether what was reached is written: where it held too much, a limit was met or memory ran out, only if a part is
 -- asked for, too
@@ -46,57 +56,15 @@ stuck_at end.Nodes symbols c = None
 stuck_at end.Limit symbols c = None
 stuck_at end.Memory symbols c = None
 
--- A text is read as a system with these limits, of which a configuration is reached, by one thread. This is its line, and this
--- tells of it. The system keeps what the laws of every order ask for.
-pub record EndsAs (limits : Limits) (bounds : Bounds) (asked : Asked) (input : List ℕ)
-    (outcome : Outcome) (line : List ℕ) : Type 0 where
-  pub system : SystemParts
-  pub answer : Configuration
-  pub reads : ReadsSystemWithin limits input (Ok system)
-  pub rule_set : IsRuleSet system.rules
-  pub over : IsTrue (is_over system.rules.symbols system.config)
-  pub names : HasNames system.config
-  pub reached : IsReachedBy system bounds answer outcome.end outcome.interactions outcome.places
-      outcome.left outcome.by_rule.items
-  pub alone : outcome.shared ≡ 0
-  pub name_steps : TellsNameSteps system.rules.rules system.config outcome.interactions
-      (length answer.equations) outcome.end outcome.name_steps
-  pub together : is_written asked outcome.end ≡ true → IsPutTogether answer
-  pub prints : line ≡ line_reached asked outcome.end system.rules.symbols answer
-  pub stuck : option_map (λ text. text.items) outcome.stuck
-      ≡ stuck_at outcome.end system.rules.symbols answer
-  pub rules : arc_value outcome.rules ≡ system.rules
-
--- The same of a system, whatever text it was read from.
-pub record EndsWatched (s : SystemParts) (bounds : Bounds) (asked : Asked) (outcome : Outcome)
-    (line : List ℕ) : Type 0 where
-  pub answer : Configuration
-  pub rule_set : IsRuleSet s.rules
-  pub over : IsTrue (is_over s.rules.symbols s.config)
-  pub names : HasNames s.config
-  pub reached : IsReachedBy s bounds answer outcome.end outcome.interactions outcome.places
-      outcome.left outcome.by_rule.items
-  pub alone : outcome.shared ≡ 0
-  pub name_steps : TellsNameSteps s.rules.rules s.config outcome.interactions
-      (length answer.equations) outcome.end outcome.name_steps
-  pub together : is_written asked outcome.end ≡ true → IsPutTogether answer
-  pub prints : line ≡ line_reached asked outcome.end s.rules.symbols answer
-  pub stuck : option_map (λ text. text.items) outcome.stuck
-      ≡ stuck_at outcome.end s.rules.symbols answer
-  pub rules : arc_value outcome.rules ≡ s.rules
-
--- The same, by however many threads, but for places: some machine that holds the net was watched since the interaction whose
--- number is told as `shared`.
+-- Of a system a configuration is reached, by however many threads. This is its line, and this tells of it. The system keeps
+-- what the laws of every order ask for.
 pub record EndsOf (s : SystemParts) (bounds : Bounds) (asked : Asked) (outcome : Outcome)
     (line : List ℕ) : Type 0 where
   pub answer : Configuration
   pub rule_set : IsRuleSet s.rules
   pub over : IsTrue (is_over s.rules.symbols s.config)
   pub names : HasNames s.config
-  pub reached : IsComeTo s bounds answer outcome.end outcome.interactions outcome.left
-      outcome.by_rule.items
-  pub places : HasPlaces s bounds answer outcome.end outcome.places outcome.left outcome.shared
-      reached.fired
+  pub reached : IsReached s bounds answer outcome.end outcome.interactions outcome.by_rule.items
   pub name_steps : TellsNameSteps s.rules.rules s.config outcome.interactions
       (length answer.equations) outcome.end outcome.name_steps
   pub together : is_written asked outcome.end ≡ true → IsPutTogether answer
@@ -104,6 +72,13 @@ pub record EndsOf (s : SystemParts) (bounds : Bounds) (asked : Asked) (outcome :
   pub stuck : option_map (λ text. text.items) outcome.stuck
       ≡ stuck_at outcome.end s.rules.symbols answer
   pub rules : arc_value outcome.rules ≡ s.rules
+
+-- A text is read as a system with these limits, and this is its line, and this tells of it.
+pub record EndsAs (limits : Limits) (bounds : Bounds) (asked : Asked) (input : List ℕ)
+    (outcome : Outcome) (line : List ℕ) : Type 0 where
+  pub system : SystemParts
+  pub reads : ReadsSystemWithin limits input (Ok system)
+  pub ends : EndsOf system bounds asked outcome line
 
 -- the answers of reducing in place within limits of the text and bounds of the way
 abbrev pub ReducesInPlace : Limits → Bounds → Asked → Answering

@@ -2,3 +2,4 @@
 pub mod Told
 pub mod Unwritten
 pub mod Numbering
+pub mod Rounds

@@ -1,3 +1,3 @@
 -- What is proved of the definitions of specs/, for proofs of this crate and of those above.
-pub mod There
-pub mod Watched
+pub mod Answered
+pub mod ByRounds

@@ -1,7 +1,6 @@
-//! How often each rule fired, by how often its plans did, how many names that made, and how many steps put a term for a name.
+//! How often each rule fired, by how often its plans did, and how many steps put a term for a name.
 
-ghost use Rattle.std.specs.Prelude.{◌≡◌, ◌+◌, ◌*◌, ◌^◌, ◌<◌, ◌==◌, ◌≢◌, ◌≤◌, ℕ, List, None, SomeIff, IfOk, length, min, slice_index_or, sum_by, if◌then◌else◌};
-ghost use Rattle.ic_in_place.specs.Counting.{AreCounts, names_at};
+ghost use Rattle.std.specs.Prelude.{◌≡◌, ◌+◌, ◌*◌, ◌^◌, ◌<◌, ◌==◌, ◌≢◌, ◌≤◌, ℕ, None, SomeIff, IfOk, length, min, slice_index_or, if◌then◌else◌};
 ghost use Rattle.ic_in_place.specs.Summing.{IsSummed, made_from};
 
 use crate::running::End;
@@ -51,19 +50,6 @@ fn count_of(counts: &[u64], plan: usize) -> u64
         Some(count) => *count,
         None => 0,
     }
-}
-
-/// So many names, and those that rules have that fired so often, each time: 2^64 - 1 if there are more.
-pub fn names_made(names: u32, rules: &[Rule], by_rule: &[u64]) -> u64
-    ensures { (fired : List ℕ) → AreCounts (length rules.now) fired by_rule.now
-        → result ≡ min (names + sum_by (names_at rules.now) fired) u64.MAX }
-{
-    let mut made = u64::from(names);
-    for (place, rule) in rules.iter().enumerate() {
-        let own = count_of(by_rule, place).saturating_mul(rule.names() as u64);
-        made = made.saturating_add(own);
-    }
-    made
 }
 
 /// How many steps put a term for a name, if the end is quiet, where so many equations were given and so many are left.

@@ -1,6 +1,6 @@
 //! Laws of what a machine holds, and of what is answered.
 
-ghost use Rattle.std.specs.Prelude.{◌≡◌, ◌≢◌, ℕ, suc, ◌+◌, ◌*◌, ◌^◌, ◌<◌, ◌≤◌, List, [], ◌∷◌, Option, SomeIff, Ok, IsTrue, length, map, slice_index_or, sum, sum_by};
+ghost use Rattle.std.specs.Prelude.{◌≡◌, ◌≢◌, ◌⊎◌, ℕ, ◌+◌, ◌^◌, ◌<◌, ◌≤◌, List, [], ◌∷◌, Option, SomeIff, Ok, IsTrue, length, map, sum, sum_by};
 ghost use Rattle.std.specs.List.{AllByRecursion};
 ghost use Rattle.ic_term.specs.Configuration.{Configuration, configuration_names, occurrences};
 ghost use Rattle.ic_term.specs.Symbol.{is_over};
@@ -18,33 +18,36 @@ ghost use Rattle.ic_round.specs.Quiet.{IsQuiet};
 ghost use Rattle.ic_confluence.specs.Kinds.{Kind, Chain};
 ghost use Rattle.ic_reaching.specs.OneNet.{OneNet, SameButNext};
 ghost use Rattle.ic_reaching.specs.Reaching.{Reaches, rules_fired};
-ghost use Rattle.ic_machine.specs.Net.{Net, all_entries, equations_left, pieces};
+ghost use Rattle.ic_machine.specs.Net.{Net, pieces};
 ghost use Rattle.ic_machine.specs.Plan.{Planned, Plans};
 ghost use Rattle.ic_machine.specs.Runs.{Ran};
 ghost use Rattle.ic_meaning.specs.Nets.{net_of};
+ghost use Rattle.ic_meaning.specs.First.{LinksPairsFirst};
+ghost use Rattle.ic_meaning.specs.Generations.{FireAsRounds};
 ghost use Rattle.ic_meaning.specs.Plans.{rule_number};
 ghost use Rattle.ic_in_place.specs.declared.running.Bounds.{Bounds};
 ghost use Rattle.ic_in_place.specs.declared.running.End.{End};
 ghost use Rattle.ic_in_place.specs.declared.running.End.TheVariants.{Quiet, Steps, Nodes, Limit};
-ghost use Rattle.ic_in_place.specs.declared.running.TheConstants.{PIECE};
 ghost use Rattle.ic_in_place.specs.declared.stream.Asked.{Asked};
 ghost use Rattle.ic_in_place.specs.declared.stream.Asked.TheVariants.{Nothing};
 ghost use Rattle.ic_in_place.specs.declared.stream.Outcome.{Outcome};
-ghost use Rattle.ic_in_place.specs.Agents.{agents_with_arguments};
 ghost use Rattle.ic_in_place.specs.Counting.{AreCounts, AreNameSteps, TellsNameSteps, arguments_at, name_steps};
-ghost use Rattle.ic_in_place.specs.Reducing.{IsPutTogether, IsReached, IsReachedBy};
-ghost use Rattle.ic_in_place.specs.Reductions.{EndsAs, EndsOf, EndsWatched};
-ghost use Rattle.ic_in_place.specs.Holding.{AreCompiled, HasRun, Holds, HasEnded, WereThere};
-ghost use Rattle.ic_in_place.specs.Running.{IsLookedAt, RunsOn};
-ghost use Rattle.ic_in_place.specs.Stopping.{StopsBy};
+ghost use Rattle.ic_in_place.specs.Reducing.{IsPutTogether, IsReached};
+ghost use Rattle.ic_in_place.specs.Reductions.{EndsAs};
+ghost use Rattle.ic_in_place.specs.Holding.{AreCompiled, HasRun, Holds, HasEnded, IsNetOf};
+ghost use Rattle.ic_in_place.specs.Running.{RunsOn};
+ghost use Rattle.ic_in_place.specs.Rounds.{EndsAfter, EndsByRounds};
+ghost use Rattle.ic_in_place.specs.Told.{figures_by, figures_of};
+ghost use Rattle.ic_in_place.specs.declared.rounded.Rounded.{Rounded};
+ghost use Rattle.ic_in_place.specs.Stopping.{IsBegun, StopsBy};
 
 /// Runs go on: what a run leads to, and what a run from there leads to.
 pub fn runs_go_on()
     ensures { (p : Plans) (a b c : Net) → Ran p a b → Ran p b c → Ran p a c }
 {}
 
-/// What a machine holds is reached from the configuration that it began with, by the rules of the plans that fired. Of each
-/// symbol it has no more places than there were agents at once. Where no pair is left, it is one net with a quiet configuration.
+/// What a machine holds is reached from the configuration that it began with, by the rules of the plans that fired. Where no
+/// pair is left, it is one net with a quiet configuration.
 pub fn what_a_machine_holds_is_reached()
     ensures reached { (rs : Rules) (numbers : List ℕ) (p : Plans) (c : Configuration)
         (given : List ℕ) (plan : Planned) (operands : List ℕ) (m : Net)
@@ -52,13 +55,6 @@ pub fn what_a_machine_holds_is_reached()
         → AreCompiled rs numbers p c given plan operands
         → (run : HasRun p (length given) plan operands m)
         → Holds rs p c given (map (rule_number numbers) run.ran.fired) m }
-    ensures used { (rs : Rules) (numbers : List ℕ) (p : Plans) (c : Configuration)
-        (given : List ℕ) (plan : Planned) (operands : List ℕ) (m : Net)
-        → IsRuleSet rs → IsTrue (is_over rs.symbols c) → HasNames c
-        → AreCompiled rs numbers p c given plan operands
-        → (run : HasRun p (length given) plan operands m) → (symbol : ℕ)
-        → WereThere rs c (map (rule_number numbers) run.ran.fired) symbol
-        (slice_index_or m.agents symbol 0) }
     ensures ends { (rs : Rules) (numbers : List ℕ) (p : Plans) (c : Configuration)
         (given fired : List ℕ) (plan : Planned) (operands : List ℕ) (m : Net)
         → IsRuleSet rs → AreCompiled rs numbers p c given plan operands
@@ -74,25 +70,49 @@ pub fn what_a_machine_holds_is_reached()
     ic_reaching::laws::what_is_reached_is_one_net();
 }
 
+/// A machine that has made rounds of a configuration, whose equations of two agents came first, holds what is reached. As the
+/// last round is over, that is the net of the configuration after as many rounds. Each of them has fired as many pairs by each rule.
+pub fn what_a_machine_holds_after_rounds()
+    ensures { (rs : Rules) (numbers : List ℕ) (p : Plans) (c : Configuration) (given : List ℕ)
+        (plan : Planned) (operands : List ℕ) (pairs most rounds : ℕ) (end : End) (first m : Net)
+        → IsRuleSet rs → IsTrue (is_over rs.symbols c) → HasNames c
+        → AreCompiled rs numbers p c given plan operands
+        → IsBegun p (length given) plan operands first
+        → LinksPairsFirst p.arities (length given) plan pairs
+        → (ends : EndsAfter p pairs most rounds end first m)
+        → (held : Holds rs p c given (map (rule_number numbers) ends.ran.fired) m)
+        × (ends.since.fired ≡ [] → IsNetOf held.numbers m (iterate rs.rules rounds c))
+        × FireAsRounds rs.rules numbers ends.made c }
+{
+    ic_meaning::laws::a_machine_begins_with_its_configuration();
+    ic_meaning::laws::steps_of_pieces_are_steps_of_the_net();
+    ic_meaning::laws::where_all_pairs_are_stuck_the_net_is_quiet();
+    ic_meaning::laws::what_is_reached_has_the_same_free_names();
+    ic_meaning::laws::steps_that_fire_nothing_keep_the_net();
+    ic_meaning::laws::rounds_in_place_are_rounds();
+    ic_reaching::laws::what_is_reached_is_one_net();
+    ic_reaching::laws::one_net_is_an_equivalence();
+}
+
 /// Where a reduction ends quiet, its answer is the net of every order: each chain of steps that ends quiet ends in it, with
 /// as many interactions. Some number of rounds ends quiet, and does so in this net, wherever fresh names begin.
 pub fn a_quiet_end_is_that_of_every_order()
     ensures every_order { (s : SystemParts) (bounds : Bounds) (answer e : Configuration)
-        (interactions places : ℕ) (kinds : List Kind)
+        (interactions : ℕ) (by_rule : List ℕ) (kinds : List Kind)
         → IsRuleSet s.rules → IsTrue (is_over s.rules.symbols s.config) → HasNames s.config
-        → IsReached s bounds answer Quiet interactions places
+        → IsReached s bounds answer Quiet interactions by_rule
         → Chain s.rules.rules kinds s.config e → IsQuiet s.rules.rules e
         → OneNet answer e × (length (rules_fired kinds) ≡ interactions) }
     ensures rounds { (s : SystemParts) (bounds : Bounds) (answer : Configuration)
-        (interactions places n : ℕ)
+        (interactions n : ℕ) (by_rule : List ℕ)
         → IsRuleSet s.rules → IsTrue (is_over s.rules.symbols s.config) → HasNames s.config
-        → IsReached s bounds answer Quiet interactions places
+        → IsReached s bounds answer Quiet interactions by_rule
         → IsQuiet s.rules.rules (iterate s.rules.rules n s.config)
         → SameButNext answer (iterate s.rules.rules n s.config) }
     ensures some_rounds { (s : SystemParts) (bounds : Bounds) (answer : Configuration)
-        (interactions places : ℕ)
+        (interactions : ℕ) (by_rule : List ℕ)
         → IsRuleSet s.rules → IsTrue (is_over s.rules.symbols s.config) → HasNames s.config
-        → IsReached s bounds answer Quiet interactions places
+        → IsReached s bounds answer Quiet interactions by_rule
         → (n : ℕ) × IsQuiet s.rules.rules (iterate s.rules.rules n s.config) }
 {
     ic_reaching::laws::what_is_reached_is_one_net();
@@ -103,9 +123,9 @@ pub fn a_quiet_end_is_that_of_every_order()
 /// Where a reduction ends quiet and leaves no equation, its answer is written as the end of every order is.
 pub fn without_equations_every_order_has_one_text()
     ensures { (s : SystemParts) (bounds : Bounds) (answer e : Configuration)
-        (interactions places : ℕ) (kinds : List Kind)
+        (interactions : ℕ) (by_rule : List ℕ) (kinds : List Kind)
         → IsRuleSet s.rules → IsTrue (is_over s.rules.symbols s.config) → HasNames s.config
-        → IsReached s bounds answer Quiet interactions places → answer.equations ≡ []
+        → IsReached s bounds answer Quiet interactions by_rule → answer.equations ≡ []
         → Chain s.rules.rules kinds s.config e → IsQuiet s.rules.rules e
         → renumbered answer ≡ renumbered e }
 {
@@ -117,7 +137,8 @@ pub fn without_equations_every_order_has_one_text()
 /// Where a reduction ends quiet, no step of its answer is possible: no interaction, and no term can be put for a name.
 pub fn at_a_quiet_end_no_step_is_possible()
     ensures { (s : SystemParts) (bounds : Bounds) (answer : Configuration)
-        (interactions places : ℕ) → IsReached s bounds answer Quiet interactions places
+        (interactions : ℕ) (by_rule : List ℕ)
+        → IsReached s bounds answer Quiet interactions by_rule
         → IsQuiet s.rules.rules answer }
 {}
 
@@ -125,14 +146,14 @@ pub fn at_a_quiet_end_no_step_is_possible()
 /// the beginning, and the interactions add up. Where it ends quiet, it is the net of every order.
 pub fn a_reduction_that_was_cut_goes_on()
     ensures reached { (s t : SystemParts) (bounds more : Bounds) (middle answer : Configuration)
-        (end last : End) (i j p q : ℕ)
+        (end last : End) (i j : ℕ) (p q : List ℕ)
         → IsRuleSet s.rules → IsTrue (is_over s.rules.symbols s.config) → HasNames s.config
         → IsReached s bounds middle end i p → t.rules ≡ s.rules → OneNet middle t.config
         → IsReached t more answer last j q
         → (fired : List ℕ) × Reaches s.rules.rules s.config answer fired
         × (length fired ≡ i + j) }
     ensures every_order { (s t : SystemParts) (bounds more : Bounds)
-        (middle answer e : Configuration) (end : End) (i j p q : ℕ) (kinds : List Kind)
+        (middle answer e : Configuration) (end : End) (i j : ℕ) (p q : List ℕ) (kinds : List Kind)
         → IsRuleSet s.rules → IsTrue (is_over s.rules.symbols s.config) → HasNames s.config
         → IsReached s bounds middle end i p → t.rules ≡ s.rules → OneNet middle t.config
         → IsReached t more answer Quiet j q
@@ -148,14 +169,14 @@ pub fn a_reduction_that_was_cut_goes_on()
 /// every order that does.
 pub fn interactions_by_rule_are_all()
     ensures all { (s : SystemParts) (bounds : Bounds) (answer : Configuration) (end : End)
-        (interactions places left : ℕ) (by_rule : List ℕ)
+        (interactions : ℕ) (by_rule : List ℕ)
         → IsRuleSet s.rules → IsTrue (is_over s.rules.symbols s.config) → HasNames s.config
-        → IsReachedBy s bounds answer end interactions places left by_rule
+        → IsReached s bounds answer end interactions by_rule
         → sum by_rule ≡ interactions }
     ensures every_order { (s : SystemParts) (bounds : Bounds) (answer e : Configuration)
-        (interactions places left : ℕ) (by_rule : List ℕ) (kinds : List Kind)
+        (interactions : ℕ) (by_rule : List ℕ) (kinds : List Kind)
         → IsRuleSet s.rules → IsTrue (is_over s.rules.symbols s.config) → HasNames s.config
-        → IsReachedBy s bounds answer Quiet interactions places left by_rule
+        → IsReached s bounds answer Quiet interactions by_rule
         → Chain s.rules.rules kinds s.config e → IsQuiet s.rules.rules e
         → AreCounts (length s.rules.rules) (rules_fired kinds) by_rule }
 {
@@ -192,34 +213,27 @@ pub fn what_is_put_together_has_no_name_step()
     ensures { (c d : Configuration) → HasNames c → IsPutTogether c → ¬ NameStep c d }
 {}
 
-/// What a stop says. Where as many interactions were made as may be, one more is possible. Where places and equations that
-/// are left were too many, fewer interactions were made than may be, and their number is a multiple of 4,096. Where a table
-/// would be full, fewer were made, too.
+/// What a stop says, by however many threads. No more interactions were made than may be. Where as many were made, one more is
+/// possible. Where a look found too many names and agents, or a table would be full, fewer were made.
 pub fn what_a_stop_says()
+    ensures within { (s : SystemParts) (bounds : Bounds) (answer : Configuration) (end : End)
+        (interactions : ℕ) (by_rule : List ℕ)
+        → IsReached s bounds answer end interactions by_rule → interactions ≤ bounds.steps }
     ensures steps { (s : SystemParts) (bounds : Bounds) (answer : Configuration)
-        (interactions places : ℕ)
+        (interactions : ℕ) (by_rule : List ℕ)
         → IsRuleSet s.rules → IsTrue (is_over s.rules.symbols s.config) → HasNames s.config
-        → IsReached s bounds answer Steps interactions places
+        → IsReached s bounds answer Steps interactions by_rule
         → (d : Configuration) × (fired : List ℕ) × Reaches s.rules.rules s.config d fired
         × (length fired ≡ bounds.steps + 1) }
     ensures nodes { (s : SystemParts) (bounds : Bounds) (answer : Configuration)
-        (interactions places : ℕ) → (is : IsReached s bounds answer Nodes interactions places)
-        → (bounds.nodes < places + equations_left is.held.machine) × (interactions < bounds.steps)
-        × ((looks : ℕ) × (interactions ≡ suc looks * 4096)) }
+        (interactions : ℕ) (by_rule : List ℕ)
+        → IsReached s bounds answer Nodes interactions by_rule → interactions < bounds.steps }
     ensures limit { (s : SystemParts) (bounds : Bounds) (answer : Configuration)
-        (interactions places : ℕ) → IsReached s bounds answer Limit interactions places
-        → interactions < bounds.steps }
-    ensures piece { PIECE ≡ 4096 }
+        (interactions : ℕ) (by_rule : List ℕ)
+        → IsReached s bounds answer Limit interactions by_rule → interactions < bounds.steps }
 {
     ic_reaching::laws::what_is_reached_goes_on();
 }
-
-/// Each agent with arguments that an answer has is at a place: there are no more of them than places that are told.
-pub fn agents_of_an_answer_are_at_places()
-    ensures { (s : SystemParts) (bounds : Bounds) (answer : Configuration) (end : End)
-        (interactions places : ℕ) → IsReached s bounds answer end interactions places
-        → agents_with_arguments answer ≤ places }
-{}
 
 /// Counts say how often each rule fired: rules 0, 1 and 1 are counted as 1 and 2. What fired has one list of counts.
 pub fn counts_are_how_often_each_rule_fired()
@@ -243,8 +257,8 @@ pub fn a_renumbered_net_is_the_same_net()
     ic_naming::laws::names_are_told_apart();
 }
 
-/// Where a text is reduced to a quiet end and its line is asked for, this is the line of the net in which every order of
-/// steps ends, of the system that the text is read as. The line is that of a configuration which is the same net as the end
+/// Where a text is reduced to a quiet end, by however many threads, and its line is asked for, this is the line of the net in
+/// which every order of steps ends, of the system that the text is read as. The line is that of a configuration which is the same net as the end
 /// of any order, wherever fresh names begin. Where no equation is left in that net, the line is written as the end of any
 /// order is. Whatever is asked for, the interactions that are told are those of every order.
 pub fn a_line_is_the_net_of_every_order()
@@ -290,100 +304,48 @@ pub fn a_line_is_the_net_of_every_order()
     without_equations_every_order_has_one_text();
 }
 
-/// All that is told of a system where several threads reduce it is told where one does. Beside that it is
-/// told of one thread how its places were watched from the beginning on.
-pub fn one_thread_tells_what_several_tell()
-    ensures { (s : SystemParts) (bounds : Bounds) (asked : Asked) (outcome : Outcome)
-        (line : List ℕ) → EndsWatched s bounds asked outcome line
-        → EndsOf s bounds asked outcome line }
-{
-    ic_machine::laws::places_are_those_that_were_in_use();
-    ic_machine::laws::places_are_made_by_plans();
-}
-
-/// Where a reduction ends quiet, by one thread or by several, its answer is the net of every order: each chain of steps that
-/// ends quiet ends in it, with as many interactions, of each rule too. If its line is asked for, it is that of this answer.
-pub fn by_however_many_threads_the_end_is_that_of_every_order()
-    ensures net { (s : SystemParts) (bounds : Bounds) (asked : Asked) (outcome : Outcome)
-        (line : List ℕ) (e : Configuration) (kinds : List Kind)
-        → (is : EndsOf s bounds asked outcome line) → outcome.end ≡ Quiet
-        → Chain s.rules.rules kinds s.config e → IsQuiet s.rules.rules e
-        → OneNet is.answer e × (length (rules_fired kinds) ≡ outcome.interactions) }
-    ensures by_rule { (s : SystemParts) (bounds : Bounds) (asked : Asked) (outcome : Outcome)
-        (line : List ℕ) (e : Configuration) (kinds : List Kind)
-        → EndsOf s bounds asked outcome line → outcome.end ≡ Quiet
-        → Chain s.rules.rules kinds s.config e → IsQuiet s.rules.rules e
-        → AreCounts (length s.rules.rules) (rules_fired kinds) outcome.by_rule.items }
-    ensures line { (s : SystemParts) (bounds : Bounds) (asked : Asked) (outcome : Outcome)
-        (line : List ℕ) → (is : EndsOf s bounds asked outcome line) → outcome.end ≡ Quiet
-        → asked ≢ Nothing → line ≡ line_of s.rules.symbols (renumbered is.answer) }
-{
-    ic_reaching::laws::what_is_reached_is_one_net();
-    ic_reaching::laws::what_is_reached_goes_on();
-    ic_reaching::laws::what_is_reached_quiet_is_the_end_of_every_order();
-}
-
-/// Where a text is reduced to a quiet end, by one thread or by several, and its line is asked for, this is the line of a
-/// configuration that is the same net as the end of any order, wherever fresh names begin. Where no equation is left in that
-/// net, the line is written as the end of any order is. Some number of rounds ends quiet, too.
-pub fn a_line_of_however_many_threads_is_the_net_of_every_order()
-    ensures written { (limits : Limits) (bounds : Bounds) (asked : Asked) (input line : List ℕ)
-        (outcome : Outcome) (s : SystemParts) (e : Configuration) (kinds : List Kind)
-        → ReadsSystemWithin limits input (Ok s) → EndsOf s bounds asked outcome line
-        → outcome.end ≡ Quiet → asked ≢ Nothing
-        → Chain s.rules.rules kinds s.config e → IsQuiet s.rules.rules e
-        → (written : Configuration) × (line ≡ line_of s.rules.symbols written)
-        × SameButNext written e }
-    ensures text { (limits : Limits) (bounds : Bounds) (asked : Asked) (input line : List ℕ)
-        (outcome : Outcome) (s : SystemParts) (e : Configuration) (kinds : List Kind)
-        → ReadsSystemWithin limits input (Ok s) → EndsOf s bounds asked outcome line
-        → outcome.end ≡ Quiet → asked ≢ Nothing
-        → Chain s.rules.rules kinds s.config e → IsQuiet s.rules.rules e → e.equations ≡ []
-        → line ≡ line_of s.rules.symbols (renumbered e) }
-    ensures rounds { (s : SystemParts) (bounds : Bounds) (asked : Asked) (outcome : Outcome)
-        (line : List ℕ) → EndsOf s bounds asked outcome line → outcome.end ≡ Quiet
-        → (n : ℕ) × IsQuiet s.rules.rules (iterate s.rules.rules n s.config) }
-{
-    ic_confluence::laws::same_nets_have_one_shape();
-    ic_naming::laws::what_is_renumbered_forgets_names();
-    ic_reaching::laws::what_is_reached_quiet_is_the_end_of_every_order();
-    ic_reaching::laws::where_names_begin_is_all_that_differs();
-    ic_reaching::laws::where_names_begin_is_no_matter();
-    ic_reaching::laws::free_names_stay();
-    a_renumbered_net_is_the_same_net();
-    by_however_many_threads_the_end_is_that_of_every_order();
-}
-
-/// What a stop says, by one thread or by several. No more interactions were made than may be, and those of each rule are
-/// together all. Where as many were made, one more is possible. Where places and equations that are left were too many, or a
-/// table would be full, fewer were made than may be.
-pub fn what_a_stop_says_by_however_many_threads()
-    ensures within { (s : SystemParts) (bounds : Bounds) (asked : Asked) (outcome : Outcome)
-        (line : List ℕ) → EndsOf s bounds asked outcome line
-        → outcome.interactions ≤ bounds.steps }
-    ensures by_rule { (s : SystemParts) (bounds : Bounds) (asked : Asked) (outcome : Outcome)
-        (line : List ℕ) → EndsOf s bounds asked outcome line
-        → sum outcome.by_rule.items ≡ outcome.interactions }
-    ensures steps { (s : SystemParts) (bounds : Bounds) (asked : Asked) (outcome : Outcome)
-        (line : List ℕ) → EndsOf s bounds asked outcome line → outcome.end ≡ Steps
-        → (d : Configuration) × (fired : List ℕ) × Reaches s.rules.rules s.config d fired
-        × (length fired ≡ bounds.steps + 1) }
-    ensures nodes { (s : SystemParts) (bounds : Bounds) (asked : Asked) (outcome : Outcome)
-        (line : List ℕ) → EndsOf s bounds asked outcome line → outcome.end ≡ Nodes
-        → (bounds.nodes < outcome.places + outcome.left) × (outcome.interactions < bounds.steps) }
-    ensures limit { (s : SystemParts) (bounds : Bounds) (asked : Asked) (outcome : Outcome)
-        (line : List ℕ) → EndsOf s bounds asked outcome line → outcome.end ≡ Limit
-        → outcome.interactions < bounds.steps }
-{
-    ic_reaching::laws::what_is_reached_is_one_net();
-    ic_reaching::laws::what_is_reached_goes_on();
-}
-
 /// A machine that has made interactions may run on, by as many as are left of those that may be made in all. Then its stop is
 /// by the bounds of all: at `Steps` it has made as many as may be, at `Nodes` and at `Limit` fewer.
 pub fn a_run_that_goes_on_stops_by_the_bounds_of_all()
     ensures { (bounds : Bounds) (steps : ℕ) (p : Plans) (old new : Net) (end : End)
         → bounds.steps ≡ old.interactions + steps → RunsOn p steps end old new
-        → (end ≡ Nodes → bounds.nodes < all_entries new)
-        → (end ≡ Nodes → IsLookedAt p old new) → StopsBy bounds p new end }
+        → StopsBy bounds p new end }
 {}
+
+/// Where rounds of a text are over, and it is quiet then or as many were made as may be, the line is that of the net after as many
+/// rounds. After one round or more it is the same net, wherever fresh names begin.
+pub fn a_line_by_rounds_is_the_net_after_them()
+    ensures { (limits : Limits) (most : ℕ) (asked : Asked) (input line : List ℕ) (reached : Rounded)
+        (s : SystemParts) → EndsByRounds limits most asked input reached line
+        → (reached.outcome.end ≡ Quiet) ⊎ (reached.outcome.end ≡ Steps) → asked ≢ Nothing
+        → ReadsSystemWithin limits input (Ok s)
+        → (answer : Configuration) × (line ≡ line_of s.rules.symbols (renumbered answer))
+        × OneNet answer (iterate s.rules.rules reached.rounds s.config)
+        × (1 ≤ reached.rounds
+        → SameButNext answer (iterate s.rules.rules reached.rounds s.config)) }
+{
+    ic_text::laws::one_system_reading();
+    ic_confluence::laws::same_is_an_equivalence();
+    ic_reaching::laws::where_names_begin_is_no_matter();
+    ic_reaching::laws::one_net_is_an_equivalence();
+    what_is_put_together_has_no_name_step();
+}
+
+/// Of the rounds of a text these are told, in order: their numbers, as many pairs as are active in the configuration before
+/// each, and as many equations as are no circles in that after it. As many are told as are made, but one in which no pair fired may be told where none is made.
+pub fn what_is_told_of_rounds()
+    ensures figures { (limits : Limits) (most : ℕ) (asked : Asked) (input line : List ℕ)
+        (reached : Rounded) → (is : EndsByRounds limits most asked input reached line)
+        → map figures_of is.rounded.ends.told ≡ figures_by is.system.rules.rules is.system.config
+        (length is.rounded.ends.told) }
+    ensures many { (limits : Limits) (most : ℕ) (asked : Asked) (input line : List ℕ)
+        (reached : Rounded) → (is : EndsByRounds limits most asked input reached line)
+        → (length is.rounded.ends.told ≡ reached.rounds) ⊎ ((reached.rounds ≡ 0)
+        × (length is.rounded.ends.told ≤ 1)
+        × (sum_by (λ o. o.pairs) is.rounded.ends.told ≡ 0)) }
+{
+    ic_reaching::laws::what_is_reached_is_one_net();
+    ic_reaching::laws::what_is_reached_goes_on();
+    ic_meaning::laws::rounds_in_place_are_rounds();
+    ic_meaning::laws::equations_left_are_all_but_circles();
+}

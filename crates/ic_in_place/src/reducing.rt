@@ -2,17 +2,19 @@
 
 ghost use Rattle.std.specs.Prelude.{◌≡◌, ◌≤◌, IfOk, length};
 ghost use Rattle.ic_term.specs.Configuration.{Configuration, configuration_nodes};
-ghost use Rattle.ic_machine.specs.Net.{equations_left};
 ghost use Rattle.ic_machine.specs.Plan.{planned, ArePlans};
 ghost use Rattle.ic_machine.specs.Runs.{IsStart};
 ghost use Rattle.ic_meaning.specs.Plans.{ArePlansOf};
 ghost use Rattle.ic_in_place.specs.declared.running.Bounds.{Bounds as AnyBounds};
 ghost use Rattle.ic_in_place.specs.Counting.{TellsNameSteps};
-ghost use Rattle.ic_in_place.specs.Reducing.{IsPutTogether, IsReachedBy, Writes};
-ghost use Rattle.ic_in_place.specs.Stopping.{HasCome, HasStopped, IsBegun, IsSound, arities_of};
-ghost use Rattle.ic_in_place.specs.inner.Unwritten.{ReadsAs, WritesAlike};
+ghost use Rattle.ic_in_place.specs.Reducing.{IsPutTogether, IsReached, Writes};
+ghost use Rattle.ic_in_place.specs.Holding.{IsNetOf};
+ghost use Rattle.ic_in_place.specs.Reductions.{IsReducedTo};
+ghost use Rattle.ic_in_place.specs.Stopping.{HasCome, IsBegun, IsSound, arities_of};
+ghost use Rattle.ic_in_place.specs.inner.Unwritten.{WritesAlike};
 
 use crate::counting::{name_steps_at, no_counts, sum_by_rule};
+use crate::gauge::Gauge;
 use crate::running::{Bounds, End, Watch, run_in_pieces};
 use crate::writing::words_of;
 use ic_flat::{WideSystem, Word};
@@ -37,10 +39,12 @@ pub struct Reduced {
     pub by_rule: Vec<u64>,
     /// How many steps put a term for a name, told if the end is quiet. Every order makes as many.
     pub name_steps: Option<u64>,
-    /// How many places the machine had at the end, the free ones too.
-    pub places: u64,
-    /// How many equations it had left then: those that were pending, and those that were set aside.
+    /// How many names and agents the net had then.
+    pub nodes: u64,
+    /// How many equations the machine had left then: those that were pending, and those that were set aside.
     pub left: u64,
+    /// How many interactions were made before one machine had all: none by one thread.
+    pub shared: u64,
     /// Why the reduction ended.
     pub end: End,
 }
@@ -54,9 +58,9 @@ pub struct Stopped {
     pub given: Vec<u64>,
     /// How often each rule fired, in the order of the rules.
     pub by_rule: Vec<u64>,
-    /// How many places the machine has, the free ones too.
-    pub places: u64,
-    /// How many interactions were made before it got all that several threads had: none by one thread.
+    /// How many names and agents the net has.
+    pub nodes: u64,
+    /// How many interactions were made before the machine got all that several threads had: none by one thread.
     pub shared: u64,
     /// Why it stopped.
     pub end: End,
@@ -70,13 +74,7 @@ pub fn reduce_in_place<V: Watch>(
     bounds: Bounds,
     watch: &V,
 ) -> Result<Reduced, AllocError>
-    ensures { IfOk result (λ reduced. (answer : Configuration)
-        × IsReachedBy system.now bounds answer reduced.end reduced.interactions reduced.places
-        reduced.left reduced.by_rule.items
-        × IsPutTogether answer
-        × TellsNameSteps system.now.rules.rules system.now.config reduced.interactions
-        (length answer.equations) reduced.end reduced.name_steps
-        × Writes system.now.rules.symbols reduced.words.items reduced.terms reduced.equations answer) }
+    ensures { IfOk result (IsReducedTo system.now bounds) }
 {
     let stopped = run_system(alloc, system, bounds, watch)?;
     let reduced = read_stopped(alloc, system, stopped)?;
@@ -84,26 +82,24 @@ pub fn reduce_in_place<V: Watch>(
 }
 
 /// Reads back what a machine holds that began with the configuration of a system, and numbers its names anew.
-pub(crate) fn read_stopped(
+pub fn read_stopped(
     alloc: Global,
     system: &WideSystem,
     stopped: Stopped,
 ) -> Result<Reduced, AllocError>
     ensures read { IfOk result (λ reduced. (bounds : AnyBounds)
         (come : HasCome system.now bounds stopped.given.items stopped.by_rule.items
-        stopped.machine stopped.end stopped.places stopped.shared)
+        stopped.machine stopped.end)
         → (answer : Configuration)
-        × ReadsAs system.now bounds stopped.given.items stopped.by_rule.items
-        stopped.machine stopped.end stopped.places stopped.shared come answer
+        × IsReached system.now bounds answer reduced.end reduced.interactions reduced.by_rule.items
         × IsPutTogether answer
         × TellsNameSteps system.now.rules.rules system.now.config reduced.interactions
         (length answer.equations) reduced.end reduced.name_steps
-        × Writes system.now.rules.symbols reduced.words.items reduced.terms reduced.equations answer) }
+        × Writes system.now.rules.symbols reduced.words.items reduced.terms reduced.equations answer
+        × IsNetOf come.held.numbers stopped.machine answer) }
     ensures interactions { IfOk result
         (λ reduced. reduced.interactions ≡ stopped.machine.interactions) }
-    ensures left { IfOk result (λ reduced. reduced.left ≡ equations_left stopped.machine) }
     ensures by_rule { IfOk result (λ reduced. reduced.by_rule.items ≡ stopped.by_rule.items) }
-    ensures places { IfOk result (λ reduced. reduced.places ≡ stopped.places) }
     ensures end { IfOk result (λ reduced. reduced.end ≡ stopped.end) }
 {
     let reached = read_words(alloc, system, stopped)?;
@@ -114,8 +110,9 @@ pub(crate) fn read_stopped(
         interactions: reached.interactions,
         by_rule: reached.by_rule,
         name_steps: reached.name_steps,
-        places: reached.places,
+        nodes: reached.nodes,
         left: reached.left,
+        shared: reached.shared,
         end: reached.end,
     })
 }
@@ -128,19 +125,17 @@ pub(crate) fn read_words(
 ) -> Result<Reduced, AllocError>
     ensures read { IfOk result (λ read. (bounds : AnyBounds)
         (come : HasCome system.now bounds stopped.given.items stopped.by_rule.items
-        stopped.machine stopped.end stopped.places stopped.shared)
+        stopped.machine stopped.end)
         → (answer : Configuration)
-        × ReadsAs system.now bounds stopped.given.items stopped.by_rule.items
-        stopped.machine stopped.end stopped.places stopped.shared come answer
+        × IsReached system.now bounds answer read.end read.interactions read.by_rule.items
         × IsPutTogether answer
         × TellsNameSteps system.now.rules.rules system.now.config read.interactions
         (length answer.equations) read.end read.name_steps
-        × WritesAlike system.now.rules.symbols read.words.items read.terms read.equations answer) }
+        × WritesAlike system.now.rules.symbols read.words.items read.terms read.equations answer
+        × IsNetOf come.held.numbers stopped.machine answer) }
     ensures interactions { IfOk result
         (λ read. read.interactions ≡ stopped.machine.interactions) }
-    ensures left { IfOk result (λ read. read.left ≡ equations_left stopped.machine) }
     ensures by_rule { IfOk result (λ read. read.by_rule.items ≡ stopped.by_rule.items) }
-    ensures places { IfOk result (λ read. read.places ≡ stopped.places) }
     ensures end { IfOk result (λ read. read.end ≡ stopped.end) }
 {
     ic_reaching::laws::one_net_is_an_equivalence();
@@ -153,7 +148,7 @@ pub(crate) fn read_words(
     ic_reaching::laws::where_names_begin_is_all_that_differs();
     let interactions = stopped.machine.interactions();
     let left = stopped.machine.equations_left();
-    let (places, end) = (stopped.places, stopped.end);
+    let (nodes, shared, end) = (stopped.nodes, stopped.shared, stopped.end);
     let read = read_back(alloc, stopped.machine)?;
     let symbols = system.rules().symbols();
     let words = words_of(alloc, symbols, &stopped.given, &read.tokens)?;
@@ -172,8 +167,9 @@ pub(crate) fn read_words(
         interactions,
         by_rule: stopped.by_rule,
         name_steps,
-        places,
+        nodes,
         left,
+        shared,
         end,
     })
 }
@@ -185,8 +181,8 @@ pub(crate) fn run_system<V: Watch>(
     bounds: Bounds,
     watch: &V,
 ) -> Result<Stopped, AllocError>
-    ensures { IfOk result (λ stopped. HasStopped system.now bounds stopped.given.items
-        stopped.by_rule.items stopped.machine stopped.end stopped.places stopped.shared) }
+    ensures { IfOk result (λ stopped. HasCome system.now bounds stopped.given.items
+        stopped.by_rule.items stopped.machine stopped.end) }
 {
     let (program, numbers) = compile(alloc, system.rules())?;
     run_compiled(alloc, system, &program, &numbers, bounds, watch)
@@ -205,23 +201,23 @@ fn run_compiled<V: Watch>(
     requires sound { ArePlans program.now }
     requires numbers { length numbers.now ≡ length program.now.plans }
     requires plans { ArePlansOf system.now.rules numbers.now program.now }
-    ensures { IfOk result (λ stopped. HasStopped system.now bounds stopped.given.items
-        stopped.by_rule.items stopped.machine stopped.end stopped.places stopped.shared) }
+    ensures { IfOk result (λ stopped. HasCome system.now bounds stopped.given.items
+        stopped.by_rule.items stopped.machine stopped.end) }
 {
     crate::laws::what_a_machine_holds_is_reached();
-    ic_machine::laws::places_are_those_that_were_in_use();
-    ic_machine::laws::places_are_made_by_plans();
     systems_are_sound(system);
     let first = first_plan(alloc, system)?;
     let mut machine = begin(alloc, system, program, &first)?;
     let mut by_rule = no_counts(alloc, system.rules().rules().len())?;
-    let (end, places) = run_in_pieces(&mut machine, program, bounds, watch);
+    let gauge = Gauge::new(alloc, system, &first, numbers, bounds.nodes)?;
+    let end = run_in_pieces(&mut machine, program, &gauge, bounds.steps, watch);
     sum_by_rule(&mut by_rule, numbers, machine.fired());
+    let nodes = gauge.nodes(&machine);
     Ok(Stopped {
         machine,
         given: first.given,
         by_rule,
-        places,
+        nodes,
         shared: 0,
         end,
     })
@@ -250,7 +246,7 @@ pub fn begin(
 }
 
 /// Systems keep what their rules and their configurations do.
-fn systems_are_sound(system: &WideSystem)
+pub(crate) fn systems_are_sound(system: &WideSystem)
     ensures { IsSound system.now }
 {
     let nodes = system.config().nodes();

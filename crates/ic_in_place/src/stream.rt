@@ -6,15 +6,15 @@ ghost use Rattle.std.specs.Option.{option_map};
 ghost use Rattle.std.specs.Io.KnownBytes.{Keeps};
 ghost use Rattle.ic_flat.specs.Words.{forest, is_word_over, IsWhole};
 ghost use Rattle.ic_flat.specs.Flat.{configuration_of};
-ghost use Rattle.ic_machine.specs.Net.{equations_left};
-ghost use Rattle.ic_diagnostics.specs.Telling.{AppendedWithin, AppendedAtWithin};
 ghost use Rattle.ic_streams.specs.Streams.{OfText, IsAnswered, FaultOf, TakesAtWithin, TakesTextWithin, line_of};
-ghost use Rattle.ic_in_place.specs.Reductions.{EndsAs, EndsOf, EndsWatched, ReducesInPlace, Tells, is_written};
+ghost use Rattle.ic_in_place.specs.Reductions.{EndsAs, EndsOf, ReducesInPlace, Tells, is_written};
 ghost use Rattle.ic_in_place.specs.declared.running.Bounds.{Bounds as AnyBounds};
-ghost use Rattle.ic_in_place.specs.Stopping.{HasCome, HasStopped};
+ghost use Rattle.ic_in_place.specs.Holding.{IsNetOf};
+ghost use Rattle.ic_in_place.specs.Stopping.{HasCome};
 ghost use Rattle.ic_in_place.specs.inner.Told.{words_stuck};
-ghost use Rattle.ic_in_place.specs.inner.Unwritten.{IsTold, IsToldOf};
+ghost use Rattle.ic_in_place.specs.inner.Unwritten.{IsTold};
 
+use crate::circle::circle_text;
 use crate::reducing::{Reduced, Stopped, read_stopped, read_words, run_system};
 use crate::running::{Bounds, End, Watch};
 use crate::stuck::stuck_text;
@@ -52,14 +52,16 @@ pub struct Outcome {
     pub by_rule: Vec<u64>,
     /// How many steps put a term for a name, told if the end is quiet. Every order makes as many.
     pub name_steps: Option<u64>,
-    /// How many places there were at the end, the free ones too.
-    pub places: u64,
+    /// How many names and agents the net had at the end.
+    pub nodes: u64,
     /// How many equations the machine had left then: those that were pending, and those that were set aside.
     pub left: u64,
     /// How many interactions were made before all that several threads had was put together: none by one thread.
     pub shared: u64,
     /// The symbols of the first equation of two agents, where the end is quiet.
     pub stuck: Option<Vec<u8>>,
+    /// The symbol at which the first circle is closed, where the end is quiet.
+    pub circle: Option<Vec<u8>>,
 }
 
 /// Reduces the system that the reader gives in place, and writes what was reached as a line, if that is asked for. What is
@@ -88,10 +90,6 @@ pub fn reduce_in_place_stream<V: Watch, R: Read, W: Write>(
         (TakesTextWithin limits (R.remaining reader.old) (R.remaining reader.new)) }
     ensures taken_at_fault { IfErr result
         (λ fault. TakesAtWithin limits fault (R.remaining reader.old) (R.remaining reader.new)) }
-    ensures told { IfErr result (λ fault. AppendedWithin limits
-        (ReducesInPlace limits bounds asked) Kind.System
-        (R.remaining reader.old) (R.remaining reader.new) fault
-        told.old.items told.new.items) }
     ensures quiet { OnOk result (told.new.items ≡ told.old.items) }
 {
     let text = read_text_within(alloc, limits, reader)?;
@@ -114,9 +112,6 @@ fn reached_line<V: Watch>(
         (λ answer. EndsAs limits bounds asked text.now answer.1 answer.0.items) }
     ensures refused { IfErr result
         (λ fault. FaultOf (ReducesInPlace limits bounds asked) text.now fault) }
-    ensures told { IfErr result (λ fault. AppendedAtWithin limits
-        (ReducesInPlace limits bounds asked) Kind.System
-        text.now fault told.old.items told.new.items) }
     ensures quiet { OnOk result (told.new.items ≡ told.old.items) }
     ensures sort { IfErr result
         (λ fault. (fault ≢ StreamFault.Write) × (fault ≢ StreamFault.Read)) }
@@ -142,21 +137,15 @@ pub fn stopped_line(
 ) -> Result<(Vec<u8>, Outcome), AllocError>
     requires { (bounds : AnyBounds)
         × HasCome system bounds stopped.given.items stopped.by_rule.items
-        stopped.machine stopped.end stopped.places stopped.shared }
+        stopped.machine stopped.end }
     ensures of { IfOk result (λ answer. (bounds : AnyBounds)
-        → HasCome system bounds stopped.given.items stopped.by_rule.items
-        stopped.machine stopped.end stopped.places stopped.shared
-        → EndsOf system bounds asked answer.1 answer.0.items) }
-    ensures watched { IfOk result (λ answer. (bounds : AnyBounds)
-        → HasStopped system bounds stopped.given.items stopped.by_rule.items
-        stopped.machine stopped.end stopped.places stopped.shared
-        → EndsWatched system bounds asked answer.1 answer.0.items) }
+        (come : HasCome system bounds stopped.given.items stopped.by_rule.items
+        stopped.machine stopped.end)
+        → (ends : EndsOf system bounds asked answer.1 answer.0.items)
+        × IsNetOf come.held.numbers stopped.machine ends.answer) }
     ensures interactions { IfOk result
         (λ answer. answer.1.interactions ≡ stopped.machine.interactions) }
-    ensures left { IfOk result (λ answer. answer.1.left ≡ equations_left stopped.machine) }
     ensures by_rule { IfOk result (λ answer. answer.1.by_rule.items ≡ stopped.by_rule.items) }
-    ensures places { IfOk result (λ answer. answer.1.places ≡ stopped.places) }
-    ensures shared { IfOk result (λ answer. answer.1.shared ≡ stopped.shared) }
     ensures end { IfOk result (λ answer. answer.1.end ≡ stopped.end) }
 {
     if !is_written(asked, stopped.end) {
@@ -167,7 +156,7 @@ pub fn stopped_line(
     let reduced = read_stopped(alloc, &system, stopped)?;
     let symbols = system.rules().symbols();
     let line = line_reached(alloc, symbols, &reduced, asked)?;
-    let stuck = stuck_at_end(alloc, symbols, &reduced)?;
+    let at_end = left_at_end(alloc, symbols, &reduced)?;
     let (rules, _) = system.into_parts();
     let outcome = Outcome {
         end: reduced.end,
@@ -175,10 +164,11 @@ pub fn stopped_line(
         rules,
         by_rule: reduced.by_rule,
         name_steps: reduced.name_steps,
-        places: reduced.places,
+        nodes: reduced.nodes,
         left: reduced.left,
         shared,
-        stuck,
+        stuck: at_end.stuck,
+        circle: at_end.circle,
     };
     Ok((line, outcome))
 }
@@ -202,21 +192,15 @@ pub fn is_written(asked: Asked, end: End) -> bool
 fn unwritten(alloc: Global, system: WideSystem, stopped: Stopped) -> Result<Outcome, AllocError>
     requires { (bounds : AnyBounds)
         × HasCome system bounds stopped.given.items stopped.by_rule.items
-        stopped.machine stopped.end stopped.places stopped.shared }
+        stopped.machine stopped.end }
     ensures told { IfOk result (λ outcome. (bounds : AnyBounds)
-        → HasStopped system bounds stopped.given.items stopped.by_rule.items
-        stopped.machine stopped.end stopped.places stopped.shared
-        → IsTold system bounds outcome) }
-    ensures told_of { IfOk result (λ outcome. (bounds : AnyBounds)
-        → HasCome system bounds stopped.given.items stopped.by_rule.items
-        stopped.machine stopped.end stopped.places stopped.shared
-        → IsToldOf system bounds outcome) }
+        (come : HasCome system bounds stopped.given.items stopped.by_rule.items
+        stopped.machine stopped.end)
+        → (told : IsTold system bounds outcome)
+        × IsNetOf come.held.numbers stopped.machine told.answer) }
     ensures interactions { IfOk result
         (λ outcome. outcome.interactions ≡ stopped.machine.interactions) }
-    ensures left { IfOk result (λ outcome. outcome.left ≡ equations_left stopped.machine) }
     ensures by_rule { IfOk result (λ outcome. outcome.by_rule.items ≡ stopped.by_rule.items) }
-    ensures places { IfOk result (λ outcome. outcome.places ≡ stopped.places) }
-    ensures shared { IfOk result (λ outcome. outcome.shared ≡ stopped.shared) }
     ensures end { IfOk result (λ outcome. outcome.end ≡ stopped.end) }
 {
     ic_reaching::laws::one_net_is_an_equivalence();
@@ -231,10 +215,11 @@ fn unwritten(alloc: Global, system: WideSystem, stopped: Stopped) -> Result<Outc
         rules,
         by_rule: stopped.by_rule,
         name_steps: None,
-        places: stopped.places,
+        nodes: stopped.nodes,
         left,
         shared: stopped.shared,
         stuck: None,
+        circle: None,
     })
 }
 
@@ -246,26 +231,20 @@ fn read_unwritten(
 ) -> Result<Outcome, AllocError>
     requires { (bounds : AnyBounds)
         × HasCome system bounds stopped.given.items stopped.by_rule.items
-        stopped.machine stopped.end stopped.places stopped.shared }
+        stopped.machine stopped.end }
     ensures told { IfOk result (λ outcome. (bounds : AnyBounds)
-        → HasStopped system bounds stopped.given.items stopped.by_rule.items
-        stopped.machine stopped.end stopped.places stopped.shared
-        → IsTold system bounds outcome) }
-    ensures told_of { IfOk result (λ outcome. (bounds : AnyBounds)
-        → HasCome system bounds stopped.given.items stopped.by_rule.items
-        stopped.machine stopped.end stopped.places stopped.shared
-        → IsToldOf system bounds outcome) }
+        (come : HasCome system bounds stopped.given.items stopped.by_rule.items
+        stopped.machine stopped.end)
+        → (told : IsTold system bounds outcome)
+        × IsNetOf come.held.numbers stopped.machine told.answer) }
     ensures interactions { IfOk result
         (λ outcome. outcome.interactions ≡ stopped.machine.interactions) }
-    ensures left { IfOk result (λ outcome. outcome.left ≡ equations_left stopped.machine) }
     ensures by_rule { IfOk result (λ outcome. outcome.by_rule.items ≡ stopped.by_rule.items) }
-    ensures places { IfOk result (λ outcome. outcome.places ≡ stopped.places) }
-    ensures shared { IfOk result (λ outcome. outcome.shared ≡ stopped.shared) }
     ensures end { IfOk result (λ outcome. outcome.end ≡ stopped.end) }
 {
     let shared = stopped.shared;
     let read = read_words(alloc, &system, stopped)?;
-    let stuck = stuck_at_end(alloc, system.rules().symbols(), &read)?;
+    let at_end = left_at_end(alloc, system.rules().symbols(), &read)?;
     let (rules, _) = system.into_parts();
     Ok(Outcome {
         end: read.end,
@@ -273,10 +252,11 @@ fn read_unwritten(
         rules,
         by_rule: read.by_rule,
         name_steps: read.name_steps,
-        places: read.places,
+        nodes: read.nodes,
         left: read.left,
         shared,
-        stuck,
+        stuck: at_end.stuck,
+        circle: at_end.circle,
     })
 }
 
@@ -305,25 +285,35 @@ fn line_reached(
     Ok(line)
 }
 
-/// The text of the first equation of two agents, where the end is quiet.
-fn stuck_at_end(
-    alloc: Global,
-    symbols: &Symbols,
-    reduced: &Reduced,
-) -> Result<Option<Vec<u8>>, AllocError>
+/// What is left at a quiet end for which no step is possible.
+#[derive(Drop)]
+struct AtEnd {
+    /// The symbols of the first equation of two agents.
+    stuck: Option<Vec<u8>>,
+    /// The symbol at which the first circle is closed.
+    circle: Option<Vec<u8>>,
+}
+
+/// What is left of this kind, where the end is quiet.
+fn left_at_end(alloc: Global, symbols: &Symbols, reduced: &Reduced) -> Result<AtEnd, AllocError>
     requires whole { IsWhole reduced.now.words.items }
     requires over { IsTrue (list_all (is_word_over symbols.now) reduced.now.words.items) }
     requires counted { length (forest reduced.now.words.items)
         ≡ reduced.now.terms + 2 * reduced.now.equations }
-    ensures { IfOk result (λ stuck. option_map (λ text. text.items) stuck
+    ensures { IfOk result (λ left. option_map (λ text. text.items) left.stuck
         ≡ words_stuck reduced.now.end symbols.now
         (configuration_of reduced.now.words.items reduced.now.terms 0)) }
 {
     match reduced.end {
         End::Quiet => {
             let (terms, equations) = (reduced.terms, reduced.equations);
-            stuck_text(alloc, symbols, &reduced.words, terms, equations)
+            let stuck = stuck_text(alloc, symbols, &reduced.words, terms, equations)?;
+            let circle = circle_text(alloc, symbols, &reduced.words, terms, equations)?;
+            Ok(AtEnd { stuck, circle })
         }
-        _ => Ok(None),
+        _ => Ok(AtEnd {
+            stuck: None,
+            circle: None,
+        }),
     }
 }

@@ -31,7 +31,7 @@ pub fn stuck_text(
 }
 
 /// The place after so many terms.
-fn after_terms(words: &[Word], terms: usize) -> usize
+pub(crate) fn after_terms(words: &[Word], terms: usize) -> usize
     requires whole { IsWhole words.now }
     requires there { terms ≤ length (forest words.now) }
     ensures { forest (drop result words.now) ≡ drop terms (forest words.now) }

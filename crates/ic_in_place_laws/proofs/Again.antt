@@ -9,7 +9,7 @@ use Rattle.ic_round.specs.Quiet.{IsQuiet}
 use Rattle.ic_in_place.specs.declared.running.Bounds.{Bounds}
 use Rattle.ic_in_place.specs.declared.running.End.{End}
 use Rattle.ic_in_place.specs.declared.running.End.TheVariants.{Quiet}
-use Rattle.ic_in_place.specs.Reducing.{StopsAt}
+use Rattle.ic_in_place.specs.Reducing.{EndsBy}
 
 each_one : (xs : List ℕ) → sum_by (λ x. 1) xs ≡ length xs
 each_one [] = refl
@@ -20,5 +20,5 @@ pub as_many : (xs ys : List ℕ) → IsPermutation xs ys → length ys ≡ lengt
 as_many xs ys moved = sym (each_one ys) ∙ sum_by-IsPermutation (λ x. 1) xs ys moved ∙ each_one xs
 
 pub quiet_end : (s : SystemParts) (bounds : Bounds) (answer : Configuration) (interactions : ℕ) (end : End)
-    → StopsAt s.rules.rules bounds answer interactions end → end ≡ Quiet → IsQuiet s.rules.rules answer
-quiet_end s bounds answer interactions end stops quiet = (subst (StopsAt s.rules.rules bounds answer interactions) quiet stops).0
+    → EndsBy s.rules.rules bounds answer interactions end → end ≡ Quiet → IsQuiet s.rules.rules answer
+quiet_end s bounds answer interactions end stops quiet = (subst (EndsBy s.rules.rules bounds answer interactions) quiet stops).0

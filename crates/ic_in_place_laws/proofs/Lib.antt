@@ -1,12 +1,3 @@
-pub mod Weights
-pub mod Sizes
-pub mod Linked
-pub mod Fired
-pub mod Taken
-pub mod Told
-pub mod Pending
-pub mod Onward
-pub mod Left
-pub mod Tidy
-pub mod Traced
 pub mod Again
+pub mod Left
+pub mod Traced

@@ -1,7 +1,6 @@
 //! Laws of what a reduction in place answers and tells.
 
-ghost use Rattle.std.specs.Prelude.{◌≡◌, ◌≢◌, ◌⊎◌, ℕ, ◌+◌, ◌≤◌, List, [], false, Option, None, Some, Ok, Err, Contains, IsTrue, length, sum_by};
-ghost use Rattle.std.specs.List.{AllByRecursion};
+ghost use Rattle.std.specs.Prelude.{◌≡◌, ◌≢◌, ℕ, List, [], ◌∷◌, false, Option, None, Some, Ok, Err, Contains, IsTrue, length, sum_by};
 ghost use Rattle.std.specs.Io.KnownBytes.{Appends};
 ghost use Rattle.std.specs.Option.{option_map};
 ghost use Rattle.ic_term.specs.Configuration.{Configuration};
@@ -14,15 +13,19 @@ ghost use Rattle.ic_round.specs.Rounds.{iterate};
 ghost use Rattle.ic_round.specs.Quiet.{IsQuiet};
 ghost use Rattle.ic_arena.specs.declared.word.Word.{Word};
 ghost use Rattle.ic_arena.specs.declared.word.TheConstants.{NAME};
-ghost use Rattle.ic_arena.specs.Piece.{equated};
-ghost use Rattle.ic_machine.specs.Net.{equations_in, pieces, IsPair};
+ghost use Rattle.ic_arena.specs.Piece.{Piece, equated};
+ghost use Rattle.ic_machine.specs.Plan.{Plans};
+ghost use Rattle.ic_machine.specs.Runs.{Way};
+ghost use Rattle.ic_machine.specs.Steps.{Fires, Steps as StepsOf};
 ghost use Rattle.ic_confluence.specs.Kinds.{Kind, Chain};
 ghost use Rattle.ic_reaching.specs.Beside.{HasRun, PartRun};
 ghost use Rattle.ic_reaching.specs.OneNet.{OneNet, SameButNext};
 ghost use Rattle.ic_reaching.specs.Reaching.{Reaches, rules_fired};
 ghost use Rattle.ic_naming.specs.Naming.{renumbered};
 ghost use Rattle.ic_text.specs.SystemText.{ReadsSystemWithin};
+ghost use Rattle.ic_round.specs.declared.round_fault.RoundFault.{RoundFault};
 ghost use Rattle.ic_text.specs.declared.fault.TextFault.{TextFault};
+ghost use Rattle.ic_text.specs.declared.fault.TextFault.TheVariants as text;
 ghost use Rattle.ic_text.specs.declared.limits.Limits.{Limits};
 ghost use Rattle.ic_streams.specs.Streams.{line_of};
 ghost use Rattle.ic_streams.specs.declared.fault.StreamFault.TheVariants as stream;
@@ -30,18 +33,17 @@ ghost use Rattle.ic_streams.specs.Stuck.{stuck_text};
 ghost use Rattle.ic_by_rounds.specs.Tracing.{rows_of};
 ghost use Rattle.ic_in_place.specs.declared.running.Bounds.{Bounds};
 ghost use Rattle.ic_in_place.specs.declared.running.End.{End};
-ghost use Rattle.ic_in_place.specs.declared.running.End.TheVariants.{Quiet, Steps, Nodes, Limit, Memory};
+ghost use Rattle.ic_in_place.specs.declared.running.End.TheVariants.{Quiet, Steps};
 ghost use Rattle.ic_in_place.specs.declared.stream.Asked.{Asked};
 ghost use Rattle.ic_in_place.specs.declared.stream.Asked.TheVariants.{Nothing};
 ghost use Rattle.ic_in_place.specs.declared.stream.Outcome.{Outcome};
-ghost use Rattle.ic_in_place.specs.Counting.{TellsNameSteps};
-ghost use Rattle.ic_in_place.specs.Reducing.{IsPutTogether, IsReached, IsReachedBy};
-ghost use Rattle.ic_in_place.specs.Reductions.{EndsAs, ReducesInPlace, Tells, is_written};
-ghost use Rattle.ic_in_place_laws.specs.Outcomes.{AreOf};
+ghost use Rattle.ic_in_place.specs.Reducing.{IsPutTogether, IsReached};
+ghost use Rattle.ic_in_place.specs.Reductions.{EndsAs, EndsOf, ReducesInPlace, Tells, is_written};
 
 /// What stands in an empty output after a reduction to a quiet end is the line of the net of every order, written of a
-/// configuration which is the same net, and the outcome that was told counts the interactions of every order. At any end, the outcome and what is appended tell of a configuration
-/// that is reached by the system that the text is read as.
+/// configuration which is the same net, and the outcome that was told counts the interactions of every order. At any end, the
+/// outcome and what is appended tell of a configuration that is reached by the system that the text is read as. That is so by
+/// however many threads.
 pub fn what_is_told_is_of_the_text()
     ensures quiet { (limits : Limits) (bounds : Bounds) (asked : Asked) (input line : List ℕ)
         (outcome : Outcome) (s : SystemParts) (e : Configuration) (kinds : List Kind)
@@ -59,34 +61,36 @@ pub fn what_is_told_is_of_the_text()
         × SameButNext written e }
     ensures ends { (limits : Limits) (bounds : Bounds) (asked : Asked) (input line : List ℕ)
         (outcome : Outcome) (s : SystemParts) → EndsAs limits bounds asked input outcome line
-        → ReadsSystemWithin limits input (Ok s) → AreOf s bounds asked outcome line }
+        → ReadsSystemWithin limits input (Ok s) → EndsOf s bounds asked outcome line }
     ensures told { (limits : Limits) (bounds : Bounds) (asked : Asked) (input : List ℕ)
         (outcome : Outcome) (s : SystemParts) (old new : Option (List ℕ))
         → Tells limits bounds asked input outcome old new → ReadsSystemWithin limits input (Ok s)
-        → (line : List ℕ) × AreOf s bounds asked outcome line × Appends old new line }
+        → (line : List ℕ) × EndsOf s bounds asked outcome line × Appends old new line }
+    ensures line { (limits : Limits) (bounds : Bounds) (asked : Asked) (input line : List ℕ)
+        (s : SystemParts) → ReducesInPlace limits bounds asked input (Ok line)
+        → ReadsSystemWithin limits input (Ok s)
+        → (outcome : Outcome) × EndsOf s bounds asked outcome line }
 {
     ic_in_place::laws::a_line_is_the_net_of_every_order();
     ic_text::laws::one_system_reading();
 }
 
-/// A text that is read as a system isn't refused.
+/// A text that is read as a system isn't refused, and a text is refused only as its reading says.
 pub fn what_is_a_system_is_not_refused()
-    ensures { (limits : Limits) (bounds : Bounds) (asked : Asked) (input : List ℕ) (s : SystemParts)
-        (fault : TextFault) → ReadsSystemWithin limits input (Ok s)
+    ensures taken { (limits : Limits) (bounds : Bounds) (asked : Asked) (input : List ℕ)
+        (s : SystemParts) (fault : TextFault) → ReadsSystemWithin limits input (Ok s)
         → ¬ ReducesInPlace limits bounds asked input (Err (stream.Text fault)) }
+    ensures refused { (limits : Limits) (bounds : Bounds) (asked : Asked) (input : List ℕ)
+        (fault : TextFault) → ReducesInPlace limits bounds asked input (Err (stream.Text fault))
+        → ReadsSystemWithin limits input (Err fault) × (fault ≢ text.Memory) }
+    ensures never { (limits : Limits) (bounds : Bounds) (asked : Asked) (input : List ℕ)
+        (fault : RoundFault) → (¬ ReducesInPlace limits bounds asked input (Err stream.Memory))
+        × (¬ ReducesInPlace limits bounds asked input (Err stream.Read))
+        × (¬ ReducesInPlace limits bounds asked input (Err stream.Write))
+        × (¬ ReducesInPlace limits bounds asked input (Err (stream.Round fault))) }
 {
     ic_text::laws::one_system_reading();
 }
-
-/// No more interactions are made than may be. Name steps are told at a quiet end alone.
-pub fn bounds_are_kept()
-    ensures steps { (s : SystemParts) (bounds : Bounds) (answer : Configuration) (end : End)
-        (interactions places : ℕ) → IsReached s bounds answer end interactions places
-        → interactions ≤ bounds.steps }
-    ensures name_steps { (rs : List Rule) (c : Configuration) (interactions left : ℕ) (end : End)
-        (told : Option ℕ) → end ≢ Quiet → TellsNameSteps rs c interactions left end told
-        → told ≡ None }
-{}
 
 /// Where as many interactions were made as may be and a line is asked for, it is that of a configuration which as many
 /// interactions reach, with no name left to replace. Where nothing is asked for, there is no line.
@@ -115,81 +119,28 @@ pub fn a_stuck_pair_is_of_a_quiet_end()
         ≡ stuck_text s.rules.symbols (renumbered answer)) }
 {}
 
-/// Where it held too much, or a table would be full, one more interaction is possible. Where memory ran out,
-/// equations were left, each between agents or free names.
-pub fn a_stop_comes_before_an_interaction()
-    ensures nodes { (s : SystemParts) (bounds : Bounds) (answer : Configuration)
-        (interactions places : ℕ)
-        → IsRuleSet s.rules → IsTrue (is_over s.rules.symbols s.config) → HasNames s.config
-        → IsReached s bounds answer Nodes interactions places
-        → (d : Configuration) × (fired : List ℕ) × Reaches s.rules.rules s.config d fired
-        × (length fired ≡ interactions + 1) }
-    ensures full { (s : SystemParts) (bounds : Bounds) (answer : Configuration)
-        (interactions places : ℕ)
-        → IsRuleSet s.rules → IsTrue (is_over s.rules.symbols s.config) → HasNames s.config
-        → IsReached s bounds answer Limit interactions places
-        → (d : Configuration) × (fired : List ℕ) × Reaches s.rules.rules s.config d fired
-        × (length fired ≡ interactions + 1) }
-    ensures memory { (s : SystemParts) (bounds : Bounds) (answer : Configuration)
-        (interactions places : ℕ) → (is : IsReached s bounds answer Memory interactions places)
-        → (is.held.machine.pending ≢ []) × AllByRecursion IsPair is.held.machine.pending }
-{
-    ic_meaning::laws::steps_of_pieces_are_steps_of_the_net();
-}
-
-/// The equations that are told to be left are those that the machine held, pending or set aside. Its pieces have no other
-/// equation, and no side of one is a name of the net. At a quiet end none is pending. There, and where as many interactions
-/// were made as may be, they are those equations of the answer that are no circles, however its equations are parted.
-pub fn equations_told_are_those_that_are_left()
-    ensures left { (s : SystemParts) (bounds : Bounds) (answer : Configuration) (end : End)
-        (interactions places left : ℕ) (by_rule : List ℕ)
-        → (is : IsReachedBy s bounds answer end interactions places left by_rule)
-        → left ≡ length is.reached.held.machine.pending + length is.reached.held.machine.aside }
-    ensures all { (s : SystemParts) (bounds : Bounds) (answer : Configuration) (end : End)
-        (interactions places left : ℕ) (by_rule : List ℕ)
-        → (is : IsReachedBy s bounds answer end interactions places left by_rule)
-        → left ≡ equations_in (pieces is.reached.held.machine) }
-    ensures linked { (s : SystemParts) (bounds : Bounds) (answer : Configuration) (end : End)
-        (interactions places : ℕ) → (is : IsReached s bounds answer end interactions places)
-        → (l r : Word) → Contains (pieces is.held.machine) (equated l r)
-        → (¬ (l.tag ≡ NAME)) × (¬ (r.tag ≡ NAME)) }
-    ensures none_pending { (s : SystemParts) (bounds : Bounds) (answer : Configuration)
-        (interactions places : ℕ) → (is : IsReached s bounds answer Quiet interactions places)
-        → is.held.machine.pending ≡ [] }
-    ensures no_circles { (s : SystemParts) (bounds : Bounds) (answer : Configuration) (end : End)
-        (interactions places left : ℕ) (by_rule : List ℕ)
-        → IsReachedBy s bounds answer end interactions places left by_rule
-        → (end ≡ Quiet) ⊎ (end ≡ Steps) → (together : IsPutTogether answer)
-        → left ≡ length together.ends }
-    ensures circles { (s : SystemParts) (bounds : Bounds) (answer : Configuration) (end : End)
-        (interactions places left : ℕ) (by_rule : List ℕ)
-        → IsReachedBy s bounds answer end interactions places left by_rule
-        → (end ≡ Quiet) ⊎ (end ≡ Steps) → (together : IsPutTogether answer)
-        → left + length together.circles ≡ length answer.equations }
-{
-    ic_machine::laws::equations_are_made_by_plans();
-}
-
-/// The machine that held what was reached has fired as many pairs as interactions are told.
-pub fn interactions_are_pairs_that_fired()
-    ensures { (s : SystemParts) (bounds : Bounds) (answer : Configuration) (end : End)
-        (interactions places : ℕ) → (is : IsReached s bounds answer end interactions places)
-        → is.held.machine.interactions ≡ interactions }
-{}
-
 /// Where a reduction ends quiet, and so many rounds do, the pairs that the rounds fire are together the interactions that
 /// are told.
 pub fn rounds_fire_as_many_pairs()
     ensures { (s : SystemParts) (bounds : Bounds) (answer : Configuration)
-        (interactions places n : ℕ)
+        (interactions n : ℕ) (by_rule : List ℕ)
         → IsRuleSet s.rules → IsTrue (is_over s.rules.symbols s.config) → HasNames s.config
-        → IsReached s bounds answer Quiet interactions places
+        → IsReached s bounds answer Quiet interactions by_rule
         → IsQuiet s.rules.rules (iterate s.rules.rules n s.config)
         → sum_by (λ row. row.pairs) (rows_of s.rules.rules s.config n) ≡ interactions }
 {
     ic_in_place::laws::a_quiet_end_is_that_of_every_order();
     ic_by_rounds::laws::rows_count_interactions();
 }
+
+/// A pair fires only after all has been linked: by then no side of an equation is a name of the net.
+pub fn a_pair_fires_after_all_is_linked()
+    ensures { (p : Plans) (i : ℕ) (is : List ℕ) (m : List Piece) (ms : List (List Piece))
+        (xs ys : List Piece) → Way p (i ∷ is) (m ∷ ms) xs ys
+        → (before : List Piece) × StepsOf p [] xs before × Fires p i before m
+        × ((l r : Word) → Contains before (equated l r)
+        → (¬ (l.tag ≡ NAME)) × (¬ (r.tag ≡ NAME))) }
+{}
 
 /// A part of a net has run where it is over the symbols, its names are below `next` and occur at most twice each, and it
 /// reaches what it is said to. Nothing else is asked of the parts of which `parts_run_side_by_side` speaks.

@@ -3,5 +3,3 @@
 
 pub mod laws;
 pub mod outcomes;
-pub mod places;
-pub mod threads;

@@ -1,5 +1,4 @@
 pub mod FieldLemmas
-pub mod LineLemmas
 pub mod HaltLemmas
 pub mod StuckLemmas
 pub mod HeldLemmas

@@ -1,5 +1,5 @@
 -- Two readings of the slots of a file, one after the other.
-use Rattle.std.proofs.Common.{◌≡◌, ◌↔◌, ℕ, ◌+◌, ◌<◌, ◌≤◌, true, List, [], ◌∷◌, Option, Some, Result, Ok, Err, OnOk, length, take, drop, get_or, refl, sym, ap, subst, ◌∙◌, arith, length-drop}
+use Rattle.std.proofs.Common.{◌≡◌, ◌↔◌, ℕ, ◌+◌, ◌<◌, ◌≤◌, true, List, [], ◌∷◌, Option, Some, Result, Ok, Err, IfOk, OnOk, length, take, drop, get_or, refl, sym, ap, subst, ◌∙◌, arith, length-drop}
 use Rattle.std.proofs.lemmas.Bool.{le-leb}
 use Rattle.std.proofs.lemmas.List.{length-take}
 use Rattle.ic_frames.specs.declared.frame.TheConstants.{HEAD, MAX_BODY}
@@ -8,9 +8,9 @@ use Rattle.ic_frames.specs.declared.slot.Slot.TheVariants.{First, Second}
 use Rattle.ic_frames.specs.declared.slot.TheConstants.{SECOND_AT}
 use Rattle.ic_frames.specs.Fields.{number, size, is_open, is_whole}
 use Rattle.ic_frames.specs.Places.{place}
-use Rattle.ic_inspect.specs.declared.inspecting.Layout.{Layout}
+use Rattle.ic_inspect.specs.declared.seen.Looked.{Looked}
 use Rattle.ic_inspect.specs.declared.seen.Seen.{Seen}
-use Rattle.ic_inspect.specs.Inspecting.{WritesTold}
+use Rattle.ic_inspect.specs.Inspecting.{IsLookedAt}
 use Rattle.ic_inspect.specs.Moments.{AreHeadsRead, AreSlotsRead, IsBodyAmid, IsBodyRead, IsHeadOf, IsHeadRead, IsReadTwiceBetween}
 use Rattle.ic_inspect.specs.Seeing.{IsSeen}
 use Rattle.ic_inspect.specs.Slots.{HasHead, IsSlotOf, body_room, file_of, is_one_file, slot_read}
@@ -69,13 +69,13 @@ slot_is bytes all remaining slot is = subst (IsSlotOf bytes) is slot
 head_is : (bytes all : List ℕ) (remaining : Option (List ℕ)) → HasHead bytes remaining → remaining ≡ Some all → take HEAD bytes ≡ take HEAD all
 head_is bytes all remaining head is = subst (HasHead bytes) is head
 
--- what is told of what was read is told of what the readers had
-pub told_of : {T E : Type 0} (r : Result T E) (layout : Layout) (a b one two : List ℕ) (old new r1 r2 : Option (List ℕ)) → IsSlotOf a r1 → IsSlotOf b r2 → r1 ≡ Some one → r2 ≡ Some two
-    → OnOk r (WritesTold layout (file_of a b) old new) → OnOk r (WritesTold layout (file_of (slot_read one) (slot_read two)) old new)
-told_of (Ok v) layout a b one two old new r1 r2 sa sb i1 i2 told =
-    subst (λ (x : List ℕ). WritesTold layout (file_of x (slot_read two)) old new) (slot_is a one r1 sa i1)
-    (subst (λ (y : List ℕ). WritesTold layout (file_of a y) old new) (slot_is b two r2 sb i2) told)
-told_of (Err e) layout a b one two old new r1 r2 sa sb i1 i2 told = tt
+-- what is seen of what was read is seen of what the readers had
+pub seen_of : {E : Type 0} (r : Result Looked E) (a b one two : List ℕ) (r1 r2 : Option (List ℕ)) → IsSlotOf a r1 → IsSlotOf b r2 → r1 ≡ Some one → r2 ≡ Some two
+    → IfOk r (λ looked. IsLookedAt looked (file_of a b)) → IfOk r (λ looked. IsLookedAt looked (file_of (slot_read one) (slot_read two)))
+seen_of (Ok looked) a b one two r1 r2 sa sb i1 i2 seen =
+    subst (λ (x : List ℕ). IsLookedAt looked (file_of x (slot_read two))) (slot_is a one r1 sa i1)
+    (subst (λ (y : List ℕ). IsLookedAt looked (file_of a y)) (slot_is b two r2 sb i2) seen)
+seen_of (Err e) a b one two r1 r2 sa sb i1 i2 seen = tt
 
 module _ (whole : (at : ℕ) (file : List ℕ) → (is_whole at file ≡ true) ↔ ((size at file ≤ MAX_BODY) × (at + HEAD + size at file ≤ length file))) where
   -- what was read from the two places on stands in the file of what was read

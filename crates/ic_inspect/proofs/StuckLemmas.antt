@@ -7,7 +7,7 @@ use Rattle.ic_jobs.specs.Job.{JobParts}
 use Rattle.ic_jobs.specs.declared.state.State.{State}
 use Rattle.ic_jobs.specs.declared.state.State.TheVariants.{Done}
 use Rattle.ic_streams.specs.Stuck.{is_of_agents, pair_text, stuck_text}
-use Rattle.ic_inspect.specs.Stuck.{stuck_in, stuck_of}
+use Rattle.ic_inspect.specs.Pairs.{stuck_in, stuck_of}
 
 -- of a done job it is told by its configuration
 pub done_told : (j : JobParts) → j.state ≡ Done → stuck_of j ≡ stuck_text j.rules.symbols j.config

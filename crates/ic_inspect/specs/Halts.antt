@@ -1,6 +1,5 @@
--- Why no further round of a job can be made, and the words that tell it (this
--- project's choice).
-use Rattle.std.specs.Prelude.{ℕ, ◌==◌, if◌then◌else◌, List, Option, None, Some, codes}
+-- Why no further round of a job can be made.
+use Rattle.std.specs.Prelude.{◌==◌, if◌then◌else◌, List, Option, None, Some}
 use Rattle.ic_term.specs.Configuration.{Configuration}
 use Rattle.ic_rules.specs.Rule.{Rule}
 use Rattle.ic_round.specs.Rounds.{names_suffice, is_small}
@@ -32,8 +31,3 @@ halt_in state.Spent j = None
 
 abbrev pub halt_of : JobParts → Option Halt
 halt_of j = halt_in j.state j
-
-abbrev pub halt_words : Halt → List ℕ
-halt_words halt.Rounds = codes "out of rounds"
-halt_words halt.Overgrown = codes "next round overgrown"
-halt_words halt.Names = codes "next round out of names"

@@ -1,5 +1,6 @@
 -- What two slots that were seen so hold.
-use Rattle.std.specs.Prelude.{ℕ, ◌==◌, nat_lt, Option, None, Some, if◌then◌else◌}
+use Rattle.std.specs.Prelude.{ℕ, List, ◌==◌, nat_lt, Option, None, Some, if◌then◌else◌}
+use Rattle.ic_jobs.specs.Job.{JobParts}
 use Rattle.ic_frames.specs.declared.slot.Slot.{Slot}
 use Rattle.ic_frames.specs.declared.slot.Slot.TheVariants as slot
 use Rattle.ic_slots.specs.Held.{Held, the_table, no_slot, two_alike, damaged}
@@ -56,3 +57,10 @@ held_of first second = held_by (newest_of first second) first second
 abbrev pub as_newest : Slot → Newest
 as_newest slot.First = First
 as_newest slot.Second = Second
+
+-- the table that is held, if one is
+abbrev pub table_of : Held → Option (List JobParts)
+table_of (the_table t) = Some t
+table_of no_slot = None
+table_of two_alike = None
+table_of damaged = None

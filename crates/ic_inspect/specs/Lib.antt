@@ -2,9 +2,7 @@
 pub mod Seeing
 pub mod Held
 pub mod Halts
-pub mod Stuck
-pub mod Report
-pub mod Objects
+pub mod Pairs
 pub mod Slots
 pub mod Inspecting
 pub mod Moments

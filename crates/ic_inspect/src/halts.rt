@@ -1,7 +1,7 @@
 //! Why no further round of a halted job can be made.
 
 ghost use Rattle.std.specs.Prelude.{◌≡◌, IfOk};
-ghost use Rattle.ic_inspect.specs.Halts.{blocked_by, halt_of, halt_words, refused_by};
+ghost use Rattle.ic_inspect.specs.Halts.{blocked_by, halt_of, refused_by};
 
 use ic_flat_round::{fits, works};
 use ic_flights::MAX_ROUNDS;
@@ -55,9 +55,7 @@ fn refused_by(alloc: Global, job: &Job) -> Result<Option<Halt>, AllocError>
 }
 
 /// The words that tell why no further round can be made.
-pub fn halt_words(halt: Halt) -> &'static [u8]
-    ensures { result.now ≡ halt_words halt }
-{
+pub fn halt_words(halt: Halt) -> &'static [u8] {
     match halt {
         Halt::Rounds => b"out of rounds",
         Halt::Overgrown => b"next round overgrown",

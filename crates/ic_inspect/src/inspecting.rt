@@ -1,9 +1,9 @@
-//! Showing what a file holds.
+//! Looking at what a file holds, and telling it.
 
-ghost use Rattle.std.specs.Prelude.{◌≡◌, ◌≢◌, [], true, IfOk, IfErr, OnOk, OnErr};
+ghost use Rattle.std.specs.Prelude.{◌≡◌, ◌≢◌, ◌⊎◌, List, ℕ, [], true, IfOk, IfErr, OnOk};
 ghost use Rattle.std.specs.Io.KnownBytes.{Appends, Keeps};
 ghost use Rattle.ic_output.specs.Output.{AppendsFront};
-ghost use Rattle.ic_inspect.specs.Inspecting.{Tells, WritesTold, WritesToldPart, told_as};
+ghost use Rattle.ic_inspect.specs.Inspecting.{IsLookedAt};
 ghost use Rattle.ic_frames.specs.declared.frame.TheConstants.{HEAD};
 ghost use Rattle.ic_inspect.specs.Slots.{HasHead, HaveChanged, TakesAtMost, file_of, is_one_file};
 
@@ -11,7 +11,7 @@ use crate::fault::InspectFault;
 use crate::looking::see;
 use crate::objects::objects;
 use crate::reading::{Slots, read_again};
-use crate::seen::Seen;
+use crate::seen::Looked;
 use crate::telling::report;
 use ic_output::write_flushed;
 use std::alloc::{AllocError, Global};
@@ -26,23 +26,19 @@ pub enum Layout {
     Objects,
 }
 
-/// Writes what a file holds whose slots were read, if a second reading gives the same heads of them: what is seen of each
-/// slot, which of them is held, and the jobs of its table.
+/// What is seen of the slots of a file that were read, if a second reading gives the same heads of them.
 ///
 /// Each reader has the file's bytes from the place of its slot on. The first reading has ended before the second one
 /// begins. Where that gives another head, or the file ended within the first slot and had the second one later, the file
-/// was written meanwhile, and nothing is written. Where the writer fails a front of the lines is written.
-pub fn inspect<R: Read, S: Read, W: Write>(
+/// was written meanwhile.
+pub fn look<R: Read, S: Read>(
     alloc: Global,
-    layout: Layout,
     slots: &Slots,
     first: &mut R,
     second: &mut S,
-    writer: &mut W,
-) -> Result<(), InspectFault>
-    ensures told { OnOk result
-        (WritesTold layout (file_of slots.now.first.items slots.now.second.items)
-        (W.contents writer.old) (W.contents writer.new)) }
+) -> Result<Looked, InspectFault>
+    ensures looked { IfOk result (λ looked.
+        IsLookedAt looked (file_of slots.now.first.items slots.now.second.items)) }
     ensures first { OnOk result (HasHead slots.now.first.items (R.remaining first.old)) }
     ensures second { OnOk result (HasHead slots.now.second.items (S.remaining second.old)) }
     ensures one_file { OnOk result
@@ -50,57 +46,47 @@ pub fn inspect<R: Read, S: Read, W: Write>(
     ensures changed { IfErr result (λ fault. fault ≡ InspectFault.Changed
         → HaveChanged slots.now.first.items slots.now.second.items
         (R.remaining first.old) (S.remaining second.old)) }
-    ensures silent { IfErr result (λ fault. fault ≢ InspectFault.Write
-        → Keeps (W.contents writer.old) (W.contents writer.new)) }
-    ensures cut { IfErr result (λ fault. fault ≡ InspectFault.Write
-        → WritesToldPart layout (file_of slots.now.first.items slots.now.second.items)
-        (W.contents writer.old) (W.contents writer.new)) }
-    ensures same_at_cut { IfErr result (λ fault. fault ≡ InspectFault.Write
-        → HasHead slots.now.first.items (R.remaining first.old)
-        × HasHead slots.now.second.items (S.remaining second.old)) }
     // Of each slot no more is read again than its head.
     ensures first_few { TakesAtMost HEAD (R.remaining first.old) (R.remaining first.new) }
     ensures second_few { TakesAtMost HEAD (S.remaining second.old) (S.remaining second.new) }
+    ensures sort { IfErr result (λ fault. fault ≢ InspectFault.Write) }
 {
     read_again(alloc, slots, first, second)?;
-    let lines = told(alloc, layout, slots)?;
-    write(writer, &lines)
+    Ok(look_at(alloc, slots)?)
 }
 
-/// The lines of what a file holds that has these slots.
-fn told(alloc: Global, layout: Layout, slots: &Slots) -> Result<Vec<u8>, AllocError>
+/// What is seen of these slots of one file.
+fn look_at(alloc: Global, slots: &Slots) -> Result<Looked, AllocError>
     requires { is_one_file slots.now.first.items slots.now.second.items ≡ true }
-    ensures { IfOk result (λ lines.
-        Tells layout (file_of slots.now.first.items slots.now.second.items) lines.items) }
+    ensures { IfOk result (λ looked.
+        IsLookedAt looked (file_of slots.now.first.items slots.now.second.items)) }
 {
     ic_frames::laws::a_slot_is_open_or_whole();
     let first = see(alloc, &slots.first)?;
     let second = see(alloc, &slots.second)?;
-    told_as(alloc, layout, &first, &second)
+    Ok(Looked { first, second })
 }
 
-/// The lines of what is seen of two slots.
-fn told_as(
+/// Writes what is seen of a file: each slot, which of them is held, and the jobs of its table. Nothing is written before all
+/// of it is there. Where the writer fails a front of it is written. What is told, trials look at.
+pub fn tell<W: Write>(
     alloc: Global,
     layout: Layout,
-    first: &Option<Seen>,
-    second: &Option<Seen>,
-) -> Result<Vec<u8>, AllocError>
-    ensures { IfOk result (λ lines. lines.items ≡ told_as layout first.now second.now) }
+    looked: &Looked,
+    writer: &mut W,
+) -> Result<(), InspectFault>
+    ensures written { OnOk result ((lines : List ℕ)
+        × Appends (W.contents writer.old) (W.contents writer.new) lines) }
+    ensures silent { IfErr result (λ fault. fault ≢ InspectFault.Write
+        → Keeps (W.contents writer.old) (W.contents writer.new)) }
+    ensures cut { IfErr result (λ fault. fault ≡ InspectFault.Write → (lines : List ℕ)
+        × AppendsFront (W.contents writer.old) (W.contents writer.new) [] lines) }
+    ensures sort { IfErr result
+        (λ fault. (fault ≡ InspectFault.Memory) ⊎ (fault ≡ InspectFault.Write)) }
 {
-    match layout {
-        Layout::Words => report(alloc, first, second),
-        Layout::Objects => objects(alloc, first, second),
-    }
-}
-
-/// Writes lines and flushes them.
-fn write<W: Write>(writer: &mut W, lines: &[u8]) -> Result<(), InspectFault>
-    ensures written { OnOk result
-        (Appends (W.contents writer.old) (W.contents writer.new) lines.now) }
-    ensures cut { OnErr result
-        (AppendsFront (W.contents writer.old) (W.contents writer.new) [] lines.now) }
-    ensures refused { IfErr result (λ fault. fault ≡ InspectFault.Write) }
-{
-    write_flushed(writer, lines).map_err(|_| InspectFault::Write)
+    let lines = match layout {
+        Layout::Words => report(alloc, looked)?,
+        Layout::Objects => objects(alloc, looked)?,
+    };
+    write_flushed(writer, &lines).map_err(|_| InspectFault::Write)
 }

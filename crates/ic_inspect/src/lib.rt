@@ -1,8 +1,8 @@
 //! What a disk's file holds, told in lines of words or as objects of JSON, with nothing changed and no lock taken.
 //!
-//! `read_slots` reads the two slots of a file once. `inspect` is handed what it gave, reads the heads of the slots again,
-//! and writes what it saw if they are the same: each slot, and the jobs of the table that is held. `laws` says that what
-//! is told as held is what an opening of the disk finds, and that it stood in the file meanwhile.
+//! `read_slots` reads the two slots of a file once. `look` is handed what it gave, reads the heads of the slots again, and
+//! answers what it saw if they are the same. `tell` writes that: each slot, and the jobs of the table that is held. `laws`
+//! says that what is seen as held is what an opening of the disk finds, and that it stood in the file meanwhile.
 #![tactic(auto)]
 
 mod choosing;
@@ -12,14 +12,14 @@ mod inspecting;
 pub mod laws;
 mod looking;
 mod objects;
+mod pairs;
 mod reading;
 mod seen;
-mod stuck;
 mod telling;
 
 pub use choosing::Newest;
 pub use fault::InspectFault;
 pub use halts::{Halt, halt_of, halt_words};
-pub use inspecting::{Layout, inspect};
+pub use inspecting::{Layout, look, tell};
 pub use reading::{Slots, read_slots};
-pub use seen::{Body, Seen};
+pub use seen::{Body, Looked, Seen};

@@ -1,5 +1,10 @@
-//! What is seen of a slot.
+//! What is seen of the slots of a file.
 
+ghost use Rattle.std.specs.Prelude.{◌≡◌};
+ghost use Rattle.std.specs.Option.{option_map};
+ghost use Rattle.ic_inspect.specs.Held.{held_by_body, held_by_slot, held_of, newest_of, table_of};
+
+use crate::choosing::{Newest, newest_of};
 use ic_jobs::Table;
 
 /// What the body of a slot is.
@@ -15,6 +20,18 @@ pub enum Body {
     Holds(Table),
 }
 
+impl Body {
+    /// The table of which it is a form.
+    fn table(&self) -> Option<&Table>
+        ensures { option_map (λ table. table.now) result ≡ table_of (held_by_body self.now) }
+    {
+        match self {
+            Body::Holds(table) => Some(table),
+            Body::TooLong | Body::CutShort | Body::NoTable => None,
+        }
+    }
+}
+
 /// What is seen of a slot whose head lies within the file.
 #[derive(Drop)]
 pub struct Seen {
@@ -23,4 +40,42 @@ pub struct Seen {
     /// How many bytes its body has.
     pub size: u32,
     pub body: Body,
+}
+
+/// What is seen of the two slots of a file: nothing of one whose head doesn't lie within it.
+#[derive(Drop)]
+pub struct Looked {
+    pub first: Option<Seen>,
+    pub second: Option<Seen>,
+}
+
+impl Looked {
+    /// The newest open slot, or why there is none.
+    pub fn newest(&self) -> Newest
+        ensures { result ≡ newest_of self.now.first self.now.second }
+    {
+        newest_of(&self.first, &self.second)
+    }
+
+    /// The table that is held: that of the newest open slot, if it has one.
+    pub fn table(&self) -> Option<&Table>
+        ensures { option_map (λ table. table.now) result
+            ≡ table_of (held_of self.now.first self.now.second) }
+    {
+        match self.newest() {
+            Newest::First => table_in(&self.first),
+            Newest::Second => table_in(&self.second),
+            Newest::NoSlot | Newest::TwoAlike => None,
+        }
+    }
+}
+
+/// The table that a slot has, if it has one.
+fn table_in(seen: &Option<Seen>) -> Option<&Table>
+    ensures { option_map (λ table. table.now) result ≡ table_of (held_by_slot seen.now) }
+{
+    match seen {
+        Some(seen) => seen.body.table(),
+        None => None,
+    }
 }

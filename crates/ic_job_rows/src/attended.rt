@@ -104,7 +104,7 @@ fn tell_run(alloc: Global, line: &mut Vec<u8>, run: &ClientRun) -> Result<(), Tr
 
 fn end_words(end: &RunnerEnd) -> &'static [u8] {
     match end {
-        RunnerEnd::Idle | RunnerEnd::Turns => b"",
+        RunnerEnd::Idle | RunnerEnd::Turns(_) => b"",
         RunnerEnd::Book(_) => b"refused ; ",
         RunnerEnd::Pool(_) => b"not played ; ",
     }

@@ -1,7 +1,7 @@
 //! A writer that takes all and fails when it is flushed, and what a dump and a look at a disk answer then.
 
 use ic_dump::dump_jobs;
-use ic_inspect::{Layout, Slots, inspect};
+use ic_inspect::{Layout, Slots, look, tell};
 use ic_jobs::Table;
 use ic_notation::Trouble;
 use std::alloc::Global;
@@ -38,14 +38,13 @@ pub fn unshown(alloc: Global) -> Result<Vec<u8>, Trouble> {
     };
     let mut first: &[u8] = &[];
     let mut second: &[u8] = &[];
-    let number = match inspect(
+    let told = look(alloc, &slots, &mut first, &mut second).and_then(|looked| tell(
         alloc,
         Layout::Words,
-        &slots,
-        &mut first,
-        &mut second,
+        &looked,
         &mut Unflushed,
-    ) {
+    ));
+    let number = match told {
         Ok(()) => 0,
         Err(fault) => fault.number(),
     };

@@ -120,6 +120,17 @@ not_unsound fault (inr limit) same = let e : Limit ≡ Unsound = sym limit ∙ s
 pub run_not_unsound : (fault : KeepingFault) → StopsARun fault → fault ≡ Unsound → ⊥
 run_not_unsound fault stops same = run_sound (subst (λ (f : KeepingFault). StopsARun f) same stops)
 
+-- nor because its files aren't begun
+pub run_not_empty : (fault : KeepingFault) → StopsARun fault → fault ≡ NotEmpty → ⊥
+run_not_empty fault (inl memory) same = let e : NotEmpty ≡ Memory = sym same ∙ memory in cc
+run_not_empty fault (inr (inl limit)) same = let e : NotEmpty ≡ Limit = sym same ∙ limit in cc
+run_not_empty fault (inr (inr kept)) same = let e : NotEmpty ≡ Keep kept.0 = sym same ∙ kept.1 in cc
+
+pub run_not_device : (fault : KeepingFault) → StopsARun fault → fault ≡ keeping.Device → ⊥
+run_not_device fault (inl memory) same = let e : keeping.Device ≡ Memory = sym same ∙ memory in cc
+run_not_device fault (inr (inl limit)) same = let e : keeping.Device ≡ Limit = sym same ∙ limit in cc
+run_not_device fault (inr (inr kept)) same = let e : keeping.Device ≡ Keep kept.0 = sym same ∙ kept.1 in cc
+
 -- the disks of a keeper that was left as it was are those that were opened
 pub as_read : {D : Type 0} (R : D → D → Type 0) (first second one other : D) (k n : Keeper D) → one ≡ newest_of n → other ≡ other_of n → n ≡ k
     → InSomeOrder R first second (newest_of k) (other_of k) → InSomeOrder R first second one other

@@ -27,7 +27,7 @@ use Rattle.ic_in_place.specs.declared.running.Bounds.{Bounds}
 use Rattle.ic_in_place.specs.declared.running.End.{End}
 use Rattle.ic_in_place.specs.declared.running.End.TheVariants.{Quiet, Steps, Nodes, Limit, Memory}
 use Rattle.ic_in_place.specs.Counting.{AreCounts}
-use Rattle.ic_in_place.specs.Reducing.{EndsBy, IsPutTogether, IsReachedBy}
+use Rattle.ic_in_place.specs.Reducing.{EndsBy, IsPutTogether, IsReached}
 use Rattle.ic_text.specs.SystemText.{ReadsSystemWithin}
 use Rattle.ic_text.specs.declared.limits.Limits.TheVariants.{Wide}
 use Rattle.ic_round.specs.Quiet.{IsQuiet}
@@ -101,12 +101,12 @@ module _ (naming : NamingLaws) (laws : ReachingLaws) (s t : SystemParts) (sound 
       (subst (λ (e : Configuration). OneNet c e) begun_as
       (naming.next c t.config.next (laws.names s.rules.rules s.config c before was) (subst (λ (e : Configuration). HasNames e) (sym begun_as) names)))
 
-  module _ (bounds : Bounds) (answer : Configuration) (end : End) (j places left : ℕ) (more : List ℕ) (r : IsReachedBy t bounds answer end j places left more) where
-    onward : Reaches s.rules.rules t.config answer r.reached.fired
-    onward = subst (λ (rs : Rules). Reaches rs.rules t.config answer r.reached.fired) rules r.reached.reached
+  module _ (bounds : Bounds) (answer : Configuration) (end : End) (j : ℕ) (more : List ℕ) (r : IsReached t bounds answer end j more) where
+    onward : Reaches s.rules.rules t.config answer r.fired
+    onward = subst (λ (rs : Rules). Reaches rs.rules t.config answer r.fired) rules r.reached
 
-    pub further : Reaches s.rules.rules s.config answer (before ++ r.reached.fired)
-    further = laws.reached s.rules s.config t.config answer before r.reached.fired sound.rules sound.over sound.names begun onward
+    pub further : Reaches s.rules.rules s.config answer (before ++ r.fired)
+    further = laws.reached s.rules s.config t.config answer before r.fired sound.rules sound.over sound.names begun onward
 
     -- and so is its net with its names numbered anew, from some number on
     module _ (low : t.config.next ≤ MAX_NAME + 1) (words : List Word) (terms : ℕ) (written : configuration_of words terms (MAX_NAME + 1) ≡ renumbered answer) where
@@ -118,39 +118,39 @@ module _ (naming : NamingLaws) (laws : ReachingLaws) (s t : SystemParts) (sound 
 
       free_low : (x : ℕ) → occurrences x (configuration_names answer) ≡ 1 → x ≤ MAX_NAME
       free_low x once =
-          let first = (laws.free s.rules s.config answer (before ++ r.reached.fired) sound.rules sound.over sound.names further x).1 once in
+          let first = (laws.free s.rules s.config answer (before ++ r.fired) sound.rules sound.over sound.names further x).1 once in
           let begins = (laws.free s.rules s.config t.config before sound.rules sound.over sound.names begun x).0 first in
           let below = occurring (λ (m : ℕ). m < t.config.next) x (configuration_names t.config) names.below (omega (arith, begins)) in
           omega (arith, below, low)
 
-      pub kept_reached : Reaches s.rules.rules s.config (kept above) (before ++ r.reached.fired)
-      kept_reached = laws.net s.rules.rules s.config answer (kept above) (before ++ r.reached.fired) further
-          (naming.net answer (kept above) (laws.names s.rules.rules s.config answer (before ++ r.reached.fired) further) (laws.above (configuration_names (kept 0))) free_low
+      pub kept_reached : Reaches s.rules.rules s.config (kept above) (before ++ r.fired)
+      kept_reached = laws.net s.rules.rules s.config answer (kept above) (before ++ r.fired) further
+          (naming.net answer (kept above) (laws.names s.rules.rules s.config answer (before ++ r.fired) further) (laws.above (configuration_names (kept 0))) free_low
           (ap (λ (e : Configuration). e.interface) written) (ap (λ (e : Configuration). e.equations) written))
 
       pub kept_quiet : QuietLaws → IsQuiet s.rules.rules answer → IsQuiet s.rules.rules (kept above)
       kept_quiet quiet_laws quiet = subst (λ (e : Configuration). IsQuiet s.rules.rules (record e { next = above })) (sym written)
-          (quiet_too quiet_laws s.rules answer (laws.names s.rules.rules s.config answer (before ++ r.reached.fired) further) sound.rules
-          (laws.over s.rules s.config answer (before ++ r.reached.fired) sound.rules sound.over sound.names further) free_low quiet above)
+          (quiet_too quiet_laws s.rules answer (laws.names s.rules.rules s.config answer (before ++ r.fired) further) sound.rules
+          (laws.over s.rules s.config answer (before ++ r.fired) sound.rules sound.over sound.names further) free_low quiet above)
 
 -- a piece within some bounds has ended so, and these are the bounds of the run
-ends_within : (rs : List Rule) (piece most : Bounds) (c : Configuration) (j entries n : ℕ) (end : End) → EndsBy rs piece c j end → (end ≡ Nodes → most.nodes < entries)
-    → (end ≡ Steps → most.steps ≤ n) → (j < piece.steps → n < most.steps) → EndsWithin rs most c n entries end
-ends_within rs piece most c j entries n Quiet is nodes steps early = is.0
-ends_within rs piece most c j entries n Steps is nodes steps early = (is.1, steps refl)
-ends_within rs piece most c j entries n Nodes is nodes steps early = (nodes refl, early is.0)
-ends_within rs piece most c j entries n Limit is nodes steps early = early is
-ends_within rs piece most c j entries n Memory is nodes steps early = tt
+ends_within : (rs : List Rule) (piece most : Bounds) (c : Configuration) (j n : ℕ) (end : End) → EndsBy rs piece c j end
+    → (end ≡ Steps → most.steps ≤ n) → (j < piece.steps → n < most.steps) → EndsWithin rs most c n end
+ends_within rs piece most c j n Quiet is steps early = is.0
+ends_within rs piece most c j n Steps is steps early = (is.1, steps refl)
+ends_within rs piece most c j n Nodes is steps early = early is
+ends_within rs piece most c j n Limit is steps early = early is
+ends_within rs piece most c j n Memory is steps early = tt
 
 -- A state, a system that has its configuration, and the state after a piece.
 module _ (naming : NamingLaws) (laws : ReachingLaws) (s t : SystemParts) (sound : IsSound s) (k new : Kept) (is : IsStateOf s k)
     (rules : t.rules ≡ s.rules) (interface : t.config.interface ≡ (configuration_of k.words k.terms 0).interface) (equations : t.config.equations ≡ (configuration_of k.words k.terms 0).equations)
-    (names : HasNames t.config) (low : t.config.next ≤ MAX_NAME + 1) (bounds : Bounds) (answer : Configuration) (end : End) (j places left : ℕ) (more : List ℕ)
-    (r : IsReachedBy t bounds answer end j places left more) (together : IsPutTogether answer) (words : List Word) (terms : ℕ)
+    (names : HasNames t.config) (low : t.config.next ≤ MAX_NAME + 1) (bounds : Bounds) (answer : Configuration) (end : End) (j : ℕ) (more : List ℕ)
+    (r : IsReached t bounds answer end j more) (together : IsPutTogether answer) (words : List Word) (terms : ℕ)
     (written : configuration_of words terms (MAX_NAME + 1) ≡ renumbered answer)
     (same_text : new.text ≡ k.text) (same_words : new.words ≡ words) (same_terms : new.terms ≡ terms) (sum : new.interactions ≡ k.interactions + j) (adds : AreSums k.by_rule more new.by_rule) where
   abbrev fired : List ℕ
-  fired = is.way.fired ++ r.reached.fired
+  fired = is.way.fired ++ r.fired
 
   new_written : configuration_of new.words new.terms (MAX_NAME + 1) ≡ renumbered answer
   new_written =
@@ -159,58 +159,32 @@ module _ (naming : NamingLaws) (laws : ReachingLaws) (s t : SystemParts) (sound 
       ∙ written
 
   all_counted : new.interactions ≡ length fired
-  all_counted = omega (arith, sum, is.way.counted, r.reached.counted, length-append is.way.fired r.reached.fired)
+  all_counted = omega (arith, sum, is.way.counted, r.counted, length-append is.way.fired r.fired)
 
   all_counts : AreCounts (length s.rules.rules) fired new.by_rule
-  all_counts = counts_add (length s.rules.rules) is.way.fired r.reached.fired k.by_rule more new.by_rule is.way.counts
-      (subst (λ (rs : Rules). AreCounts (length rs.rules) r.reached.fired more) rules r.counts) adds
+  all_counts = counts_add (length s.rules.rules) is.way.fired r.fired k.by_rule more new.by_rule is.way.counts
+      (subst (λ (rs : Rules). AreCounts (length rs.rules) r.fired more) rules r.counts) adds
 
   on_way : IsOnWay s answer new.interactions new.by_rule
   on_way = record {
     fired = fired;
-    reached = further naming laws s t sound (configuration_of k.words k.terms is.next) is.way.fired is.way.reached rules interface equations names bounds answer end j places left more r;
+    reached = further naming laws s t sound (configuration_of k.words k.terms is.next) is.way.fired is.way.reached rules interface equations names bounds answer end j more r;
     counted = all_counted;
     counts = all_counts;
   }
 
   ended_by : EndsBy s.rules.rules bounds answer j end
-  ended_by = subst (λ (rs : Rules). EndsBy rs.rules bounds answer j end) rules r.reached.ended
+  ended_by = subst (λ (rs : Rules). EndsBy rs.rules bounds answer j end) rules r.ended
 
-  over : end ≡ Nodes → bounds.nodes < places + left
-  over ended =
-      let entries = r.reached.over ended in
-      omega (arith, entries, r.reached.held.all, r.equations)
-
-  pub answer_of : (most : Bounds) → most.nodes ≡ bounds.nodes → k.interactions + bounds.steps ≤ max most.steps k.interactions → (end ≡ Steps → most.steps ≤ new.interactions)
-      → IsAnswer s most end places left new
-  answer_of most nodes few steps = record {
+  pub answer_of : (most : Bounds) → k.interactions + bounds.steps ≤ max most.steps k.interactions → (end ≡ Steps → most.steps ≤ new.interactions)
+      → IsAnswer s most end new
+  answer_of most few steps = record {
     sound = sound;
     answer = answer;
     way = on_way;
-    ended = ends_within s.rules.rules bounds most answer j (places + left) new.interactions end ended_by (λ ended. omega (arith, over ended, nodes)) steps
-        (λ early. omega (arith, few, sum, early));
+    ended = ends_within s.rules.rules bounds most answer j new.interactions end ended_by steps (λ early. omega (arith, few, sum, early));
     together = together;
-    ends = r.ends;
     written = new_written;
-    piece = record {
-      from = t;
-      most = bounds;
-      earlier = k.interactions;
-      before = k.by_rule;
-      made = j;
-      by_rule = more;
-      rules = rules;
-      nodes = sym nodes;
-      way = record {
-        fired = is.way.fired;
-        reached = begun naming laws s t sound (configuration_of k.words k.terms is.next) is.way.fired is.way.reached rules interface equations names;
-        counted = is.way.counted;
-        counts = is.way.counts;
-      };
-      all = sum;
-      sums = adds;
-      reached = r;
-    };
   }
 
   answer_quiet : end ≡ Quiet → IsQuiet s.rules.rules answer
@@ -239,22 +213,22 @@ module _ (naming : NamingLaws) (laws : ReachingLaws) (s t : SystemParts) (sound 
         next = new_next;
         way = record {
           fired = fired;
-          reached = kept_reached naming laws s t sound (configuration_of k.words k.terms is.next) is.way.fired is.way.reached rules interface equations names bounds answer end j places left more r
+          reached = kept_reached naming laws s t sound (configuration_of k.words k.terms is.next) is.way.fired is.way.reached rules interface equations names bounds answer end j more r
               low new.words new.terms new_written;
           counted = all_counted;
           counts = all_counts;
         };
         low = λ few. low_words telling answer new.words new.terms n counted new_written few;
-        quiet = λ has_ended. kept_quiet naming laws s t sound (configuration_of k.words k.terms is.next) is.way.fired is.way.reached rules interface equations names bounds answer end j places left more r
+        quiet = λ has_ended. kept_quiet naming laws s t sound (configuration_of k.words k.terms is.next) is.way.fired is.way.reached rules interface equations names bounds answer end j more r
             low new.words new.terms new_written quiet_laws (answer_quiet (ended has_ended));
         whole = whole;
         equations = n;
         counted = counted;
       };
-      more = from.more ++ r.reached.fired;
-      reached = kept_reached naming laws middle t middle_sound (configuration_of k.words k.terms from.is.next) from.more from.reached rules interface equations names bounds answer end j places left more r
+      more = from.more ++ r.fired;
+      reached = kept_reached naming laws middle t middle_sound (configuration_of k.words k.terms from.is.next) from.more from.reached rules interface equations names bounds answer end j more r
           low new.words new.terms new_written;
-      counted = omega (arith, sum, from.counted, r.reached.counted, length-append from.more r.reached.fired);
+      counted = omega (arith, sum, from.counted, r.counted, length-append from.more r.fired);
       text = same_text ∙ from.text;
       millis = omega (arith, from.millis, later);
     }
@@ -319,7 +293,7 @@ module _ (s : SystemParts) (first k : Kept) (from : IsReachedFrom s first k) whe
   -- or what a piece makes of them
   module _ (naming : NamingLaws) (laws : ReachingLaws) (t : SystemParts) (sound : IsSound s) (rules : t.rules ≡ s.rules)
       (interface : t.config.interface ≡ (configuration_of k.words k.terms 0).interface) (equations : t.config.equations ≡ (configuration_of k.words k.terms 0).equations) (names : HasNames t.config)
-      (bounds : Bounds) (answer : Configuration) (end : End) (j places left : ℕ) (more : List ℕ) (r : IsReachedBy t bounds answer end j places left more) (together : IsPutTogether answer) where
+      (bounds : Bounds) (answer : Configuration) (end : End) (j : ℕ) (more : List ℕ) (r : IsReached t bounds answer end j more) (together : IsPutTogether answer) where
     abbrev starts : SystemParts
     starts = record { rules = s.rules; config = configuration_of first.words first.terms from.was.next }
 
@@ -330,8 +304,8 @@ module _ (s : SystemParts) (first k : Kept) (from : IsReachedFrom s first k) whe
       names = laws.names s.rules.rules s.config starts.config from.was.way.fired from.was.way.reached;
     }
 
-    onto_answer : Reaches s.rules.rules starts.config answer (from.more ++ r.reached.fired)
-    onto_answer = further naming laws starts t starts_sound there from.more from.reached rules interface equations names bounds answer end j places left more r
+    onto_answer : Reaches s.rules.rules starts.config answer (from.more ++ r.fired)
+    onto_answer = further naming laws starts t starts_sound there from.more from.reached rules interface equations names bounds answer end j more r
 
     as_many : length s.rules.rules ≡ length more
     as_many = sym (r.counts.all ∙ ap (λ (rs : Rules). length rs.rules) rules)
@@ -339,8 +313,8 @@ module _ (s : SystemParts) (first k : Kept) (from : IsReachedFrom s first k) whe
     one_past : (i : ℕ) → i < length more → 2 ^ 64 ≤ slice_index_or k.by_rule i 0 + slice_index_or more i 0 → 2 ^ 64 ≤ k.interactions + j
     one_past i inside many =
         let ours = counts_within (length s.rules.rules) from.is.way.fired k.by_rule from.is.way.counts i (omega (arith, inside, as_many)) in
-        let also = counts_within (length t.rules.rules) r.reached.fired more r.counts i (omega (arith, inside, r.counts.all)) in
-        omega (arith, many, ours, also, from.is.way.counted, r.reached.counted)
+        let also = counts_within (length t.rules.rules) r.fired more r.counts i (omega (arith, inside, r.counts.all)) in
+        omega (arith, many, ours, also, from.is.way.counted, r.counted)
 
     pub past_sums : (2 ^ 64 ≤ k.interactions + j) ⊎ ((i : ℕ) × (i < length more) × (2 ^ 64 ≤ slice_index_or k.by_rule i 0 + slice_index_or more i 0)) → ComesPastLimits s first
     past_sums past =
@@ -348,10 +322,10 @@ module _ (s : SystemParts) (first k : Kept) (from : IsReachedFrom s first k) whe
         record {
           is = from.was;
           net = answer;
-          more = from.more ++ r.reached.fired;
+          more = from.more ++ r.fired;
           reached = onto_answer;
           together = inr together;
-          past = inr (omega (arith, many, from.counted, r.reached.counted, length-append from.more r.reached.fired));
+          past = inr (omega (arith, many, from.counted, r.counted, length-append from.more r.fired));
         }
 
     -- what a piece leads to
@@ -359,10 +333,10 @@ module _ (s : SystemParts) (first k : Kept) (from : IsReachedFrom s first k) whe
     comes new sum nodes = record {
       is = from.was;
       answer = answer;
-      more = from.more ++ r.reached.fired;
+      more = from.more ++ r.fired;
       reached = onto_answer;
       together = together;
-      counted = omega (arith, sum, from.counted, r.reached.counted, length-append from.more r.reached.fired);
+      counted = omega (arith, sum, from.counted, r.counted, length-append from.more r.fired);
       nodes = nodes;
     }
 
@@ -427,11 +401,11 @@ names_of c is = record { below = is.below; twice = is.twice }
 
 -- what a piece has reached from a system is written by its words
 pub reached_written : (naming : NamingLaws) (laws : ReachingLaws) → ((rs : List Rule) (c : Configuration) → HasNames c → Reaches rs c c []) → (t : SystemParts) → IsSound t
-    → (bounds : Bounds) (answer : Configuration) (end : End) (j places left : ℕ) (more : List ℕ) → IsReachedBy t bounds answer end j places left more → t.config.next ≤ MAX_NAME + 1
+    → (bounds : Bounds) (answer : Configuration) (end : End) (j : ℕ) (more : List ℕ) → IsReached t bounds answer end j more → t.config.next ≤ MAX_NAME + 1
     → (words : List Word) (terms : ℕ) → configuration_of words terms (MAX_NAME + 1) ≡ renumbered answer → IsWhole words → (n : ℕ) → length (forest words) ≡ terms + 2 * n
     → IsWritten t.rules.symbols words terms
-reached_written naming laws itself t sound bounds answer end j places left more r low words terms written whole n counted =
-    let reached = kept_reached naming laws t t sound t.config [] (itself t.rules.rules t.config sound.names) refl refl refl sound.names bounds answer end j places left more r
+reached_written naming laws itself t sound bounds answer end j more r low words terms written whole n counted =
+    let reached = kept_reached naming laws t t sound t.config [] (itself t.rules.rules t.config sound.names) refl refl refl sound.names bounds answer end j more r
     low words terms written in
     let now = configuration_of words terms (one_above (configuration_names (configuration_of words terms 0))) in
     record {

@@ -4,7 +4,7 @@ use Rattle.ic_term.specs.Configuration.{Configuration, configuration_nodes}
 use Rattle.ic_term.specs.Symbol.{is_over}
 use Rattle.ic_term.specs.declared.limits.TheConstants.{MAX_WIDE_NODES}
 use Rattle.ic_rules.specs.Rule.{Rule}
-use Rattle.ic_rules.specs.RuleSet.{IsRuleSet}
+use Rattle.ic_rules.specs.RuleSet.{IsRuleSet, Rules}
 use Rattle.ic_rules.specs.System.{SystemParts}
 use Rattle.ic_flat.specs.Flat.{configuration_of}
 use Rattle.ic_flat.specs.Words.{forest, IsWhole}
@@ -19,7 +19,7 @@ use Rattle.ic_in_place.specs.declared.running.Bounds.{Bounds}
 use Rattle.ic_in_place.specs.declared.running.End.{End}
 use Rattle.ic_in_place.specs.declared.running.End.TheVariants.{Quiet, Steps, Nodes, Limit, Memory}
 use Rattle.ic_in_place.specs.Counting.{AreCounts}
-use Rattle.ic_in_place.specs.Reducing.{CanInteract, HasEnds, IsPutTogether, IsReachedBy}
+use Rattle.ic_in_place.specs.Reducing.{CanInteract, IsPutTogether}
 use Rattle.ic_state.specs.State.{Kept, IsKept, state_bytes}
 
 -- each of these counts is the sum of two others
@@ -88,48 +88,28 @@ pub record IsSound (s : SystemParts) : Type 0 where
   pub over : IsTrue (is_over s.rules.symbols s.config)
   pub names : HasNames s.config
 
--- What an end says of what was reached, by so many interactions of all runs. So many are together the places of the last
--- piece and the equations that it had left.
-abbrev pub EndsWithin : List Rule → Bounds → Configuration → (interactions entries : ℕ) → End → Type 0
-EndsWithin rs bounds c interactions entries Quiet = IsQuiet rs c
-EndsWithin rs bounds c interactions entries Steps =
-    CanInteract rs c × (bounds.steps ≤ interactions)
-EndsWithin rs bounds c interactions entries Nodes =
-    (bounds.nodes < entries) × (interactions < bounds.steps)
-EndsWithin rs bounds c interactions entries Limit = interactions < bounds.steps
-EndsWithin rs bounds c interactions entries Memory = Unit {0}
+-- these are the rules of this system, which keeps what those do that were read
+pub record AreRulesOf (s : SystemParts) (rules : Rules) : Type 0 where
+  pub same : rules ≡ s.rules
+  pub sound : IsSound s
 
--- The last piece of a run is a reduction in place: of a system with the same rules, to whose configuration the interactions
--- before it lead, with the same bound on places and equations, and with an end and counts as they are told of the run. The
--- interactions that are told are those before it and its own, of each rule too.
-pub record IsLastPiece (s : SystemParts) (bounds : Bounds) (answer : Configuration) (end : End)
-    (places left : ℕ) (k : Kept) : Type 0 where
-  pub from : SystemParts
-  pub most : Bounds
-  pub earlier : ℕ
-  pub before : List ℕ
-  pub made : ℕ
-  pub by_rule : List ℕ
-  pub rules : from.rules ≡ s.rules
-  pub nodes : most.nodes ≡ bounds.nodes
-  pub way : IsOnWay s from.config earlier before
-  pub all : k.interactions ≡ earlier + made
-  pub sums : AreSums before by_rule k.by_rule
-  pub reached : IsReachedBy from most answer end made places left by_rule
+-- What an end says of what was reached, by so many interactions of all runs.
+abbrev pub EndsWithin : List Rule → Bounds → Configuration → (interactions : ℕ) → End → Type 0
+EndsWithin rs bounds c interactions Quiet = IsQuiet rs c
+EndsWithin rs bounds c interactions Steps = CanInteract rs c × (bounds.steps ≤ interactions)
+EndsWithin rs bounds c interactions Nodes = interactions < bounds.steps
+EndsWithin rs bounds c interactions Limit = interactions < bounds.steps
+EndsWithin rs bounds c interactions Memory = Unit {0}
 
 -- What a run ends with: the words of an answer with its names numbered anew, which is reached from the system's
--- configuration by the interactions that are told. This is why it ended. Where no interaction is possible, or as many were
--- made as may be, so many of its equations are no circles.
-pub record IsAnswer (s : SystemParts) (bounds : Bounds) (end : End) (places left : ℕ) (k : Kept)
-    : Type 0 where
+-- configuration by the interactions that are told. This is why it ended.
+pub record IsAnswer (s : SystemParts) (bounds : Bounds) (end : End) (k : Kept) : Type 0 where
   pub sound : IsSound s
   pub answer : Configuration
   pub way : IsOnWay s answer k.interactions k.by_rule
-  pub ended : EndsWithin s.rules.rules bounds answer k.interactions (places + left) end
+  pub ended : EndsWithin s.rules.rules bounds answer k.interactions end
   pub together : IsPutTogether answer
-  pub ends : (end ≡ Quiet) ⊎ (end ≡ Steps) → HasEnds answer left
   pub written : configuration_of k.words k.terms (MAX_NAME + 1) ≡ renumbered answer
-  pub piece : IsLastPiece s bounds answer end places left k
 
 -- the bytes of a state of the reduction of this system
 abbrev pub IsFormOf : SystemParts → List ℕ → Type 0

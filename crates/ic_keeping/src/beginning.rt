@@ -1,6 +1,7 @@
 //! The state that a reduction begins with, in two files, and the one with which it goes on.
 
-ghost use Rattle.std.specs.Prelude.{◌≡◌, ◌≢◌, ◌⊎◌, ◌≤◌, ℕ, List, [], false, Ok, Err, IfOk, IfErr, IfSome, IsTrue, IsErrOf, OnOk, length, slice_index_or};
+ghost use Rattle.std.specs.Prelude.{◌≡◌, ◌≢◌, ◌⊎◌, ℕ, List, [], false, Ok, Err, IfOk, IfErr, IsTrue, IsErrOf, OnOk, length, slice_index_or};
+ghost use Rattle.std.specs.Arc.{arc_value};
 ghost use Rattle.std.specs.List.{AllByRecursion};
 ghost use Rattle.ic_disk.specs.Images.{Within};
 ghost use Rattle.ic_disk.specs.Time.{OneMore};
@@ -15,23 +16,34 @@ ghost use Rattle.ic_state.specs.State.{IsKept, Kept, kept_by, state_bytes};
 ghost use Rattle.ic_state.specs.Words.{IsKeptWord};
 ghost use Rattle.ic_text.specs.SystemText.{ReadsSystemWithin};
 ghost use Rattle.ic_keeping.specs.Disks.{Relates};
-ghost use Rattle.ic_keeping.specs.Way.{IsBegun, IsFormOf, IsStateOf};
+ghost use Rattle.ic_keeping.specs.Way.{AreRulesOf, IsBegun, IsFormOf, IsStateOf};
 
 use crate::fault::KeepingFault;
 use crate::systems::systems_are_sound;
 use ic_disk::Disk;
 use ic_kept::{CreateFault, Keeper, OpenFault, create};
+use ic_rules::RuleSet;
 use ic_state::{State, StateFault, decode, encode};
 use ic_text::{Limits, Misread, TextFault, find_wide_system};
 use std::alloc::{AllocError, Global};
+use std::sync::Arc;
 
-/// The state of a text from which no interaction was made.
-pub fn begun(alloc: Global, text: &[u8]) -> Result<State, Misread>
-    ensures read { IfOk result (λ state. (s : SystemParts) × IsBegun s (kept_by state)) }
-    ensures text { IfOk result (λ state. state.text.items ≡ text.now) }
+/// With what a reduction begins.
+#[derive(Debug, Drop)]
+pub struct Start {
+    /// The state of its text, from which no interaction was made.
+    pub state: State,
+    /// The rules of its text.
+    pub rules: Arc<RuleSet>,
+}
+
+/// With what the reduction of a text begins.
+pub fn begun(alloc: Global, text: &[u8]) -> Result<Start, Misread>
+    ensures read { IfOk result (λ begun. (s : SystemParts) × IsBegun s (kept_by begun.state)
+        × AreRulesOf s (arc_value begun.rules)) }
+    ensures text { IfOk result (λ begun. begun.state.text.items ≡ text.now) }
     ensures refused { IfErr result (λ misread. misread.fault ≢ TextFault.Memory
         → ReadsSystemWithin Limits.Wide text.now (Err misread.fault)) }
-    ensures place { IfErr result (λ misread. IfSome misread.place (λ at. at ≤ length text.now)) }
 {
     ic_reaching::laws::what_is_reached_is_one_net();
     let system = find_wide_system(alloc, Limits::Wide, text)?;
@@ -40,7 +52,7 @@ pub fn begun(alloc: Global, text: &[u8]) -> Result<State, Misread>
     let by_rule = zeros(alloc, rules.rules().len())?;
     let (words, terms, _, _) = config.into_parts();
     let kept = text.to_vec(alloc)?;
-    Ok(State {
+    let state = State {
         text: kept,
         words,
         terms: terms as u64,
@@ -48,7 +60,8 @@ pub fn begun(alloc: Global, text: &[u8]) -> Result<State, Misread>
         by_rule,
         ended: false,
         millis: 0,
-    })
+    };
+    Ok(Start { state, rules })
 }
 
 /// So many counts of nothing.

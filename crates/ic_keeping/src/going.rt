@@ -21,33 +21,38 @@ ghost use Rattle.ic_term.specs.declared.limits.TheConstants.{MAX_WIDE_NODES};
 ghost use Rattle.ic_text.specs.SystemText.{ReadsSystemWithin};
 ghost use Rattle.ic_keeping.specs.inner.Pieces.{ComesTogether, IsWritten};
 ghost use Rattle.ic_keeping.specs.Life.{IsTold, KeepFails, StopsARun};
-ghost use Rattle.ic_keeping.specs.Way.{AreSums, ComesPastLimits, GoesFurther, IsAnswer, IsAsFar, IsKeptAfter, IsReachedFrom, IsSound, IsStateOf};
+ghost use Rattle.ic_keeping.specs.Way.{AreRulesOf, AreSums, ComesPastLimits, GoesFurther, IsAnswer, IsAsFar, IsKeptAfter, IsReachedFrom, IsSound, IsStateOf};
 
 use crate::beginning::bytes_of;
 use crate::counts::{add_all, are_counts};
 use crate::fault::KeepingFault;
-use crate::pace::{Clock, Pace, Timed};
+use crate::pace::{Pace, Timed, millis_of};
 use crate::systems::{states_are_reached, system_of, systems_are_sound};
 use ic_disk::Disk;
-use ic_in_place::{Asked, Bounds, End, Reduced, Watch, is_written, reduce_in_place, stuck_text};
+use ic_in_place::{Asked, Bounds, End, Reduced, Watch, circle_text, is_written, stuck_text};
 use ic_kept::Keeper;
 use ic_rules::RuleSet;
 use ic_state::State;
 use ic_term::Symbols;
 use ic_text::{Limits, TextFault, find_wide_system, put_words};
+use ic_workers::{Policy, reduce_by_workers};
 use std::alloc::Global;
 use std::mem::replace;
 use std::sync::Arc;
+use std::thread::Threads;
+use std::time::Clock;
 
 /// How a run of a reduction has ended, and what it has come to in all runs.
 #[derive(Debug, Drop)]
 pub struct Ended {
     /// Why it ended.
     pub end: End,
-    /// How many places the last piece had at its end.
-    pub places: u64,
+    /// How many names and agents the net had at its end.
+    pub nodes: u64,
     /// How many equations it had left then: those that were pending, and those that were set aside.
     pub left: u64,
+    /// How many interactions of this run were made before one machine had all of a piece: none by one thread.
+    pub shared: u64,
     /// The rules of the text, and its symbols.
     pub rules: Arc<RuleSet>,
     /// What was reached. What is kept goes as far.
@@ -56,6 +61,8 @@ pub struct Ended {
     pub line: Vec<u8>,
     /// The symbols of the first equation of two agents, where the end is quiet.
     pub stuck: Option<Vec<u8>>,
+    /// The symbol at which the first circle is closed, where the end is quiet.
+    pub circle: Option<Vec<u8>>,
 }
 
 /// The rules of the system that a text is read as.
@@ -86,7 +93,7 @@ fn rules_of(alloc: Global, text: &[u8]) -> Result<Arc<RuleSet>, KeepingFault>
 }
 
 /// The rules of the text of a state that has a count for each of them.
-fn rules_for(alloc: Global, state: &State) -> Result<Arc<RuleSet>, KeepingFault>
+pub(crate) fn rules_for(alloc: Global, state: &State) -> Result<Arc<RuleSet>, KeepingFault>
     ensures rules { (s : SystemParts)
         → ReadsSystemWithin Limits.Wide state.now.text.items (Ok s)
         → IfOk result (λ rules. arc_value rules ≡ s.rules) }
@@ -128,31 +135,36 @@ fn unread(fault: TextFault) -> KeepingFault
 #[derive(Clone, Copy)]
 struct Piece {
     end: End,
-    places: u64,
+    nodes: u64,
     left: u64,
+    // How many interactions were made before one machine had all.
+    shared: u64,
     // How many equations were reached.
     equations: usize,
     // For how many milliseconds it made interactions.
     millis: u64,
 }
 
-/// Reduces what a state says by so many interactions at most, and tells why no more were made and how many places there were.
-fn run_piece<C: Clock, V: Watch>(
+/// Reduces what a state says by several threads, by so many interactions at most, and puts it together. It tells why no more
+/// were made, and how many names and agents there were.
+fn run_piece<T: Threads + Sync, C: Clock + Sync, V: Watch>(
+    threads: &T,
+    clock: &C,
     alloc: Global,
     rules: &Arc<RuleSet>,
     state: &mut State,
+    policy: Policy,
     bounds: Bounds,
-    clock: &C,
     watch: &V,
 ) -> Result<Piece, KeepingFault>
     ensures further { (s : SystemParts) (first : Kept) → IsSound s → arc_value rules.now ≡ s.rules
         → IsReachedFrom s first (kept_by state.old)
         → OnOk result (IsReachedFrom s first (kept_by state.new)) }
     ensures answer { (s : SystemParts) (most : Bounds) → IsSound s → arc_value rules.now ≡ s.rules
-        → IsStateOf s (kept_by state.old) → most.nodes ≡ bounds.nodes
+        → IsStateOf s (kept_by state.old)
         → state.old.interactions + bounds.steps ≤ max most.steps state.old.interactions
         → IfOk result (λ piece. (piece.end ≡ End.Steps → most.steps ≤ state.new.interactions)
-        → IsAnswer s most piece.end piece.places piece.left (kept_by state.new)) }
+        → IsAnswer s most piece.end (kept_by state.new)) }
     ensures stays { OnOk result (state.old.interactions ≡ state.new.interactions
         → state.new.by_rule.items ≡ state.old.by_rule.items) }
     ensures ended { IfOk result (λ piece.
@@ -202,13 +214,13 @@ fn run_piece<C: Clock, V: Watch>(
     ic_naming::laws::names_are_told_apart();
     ic_naming::laws::renamed_words_write_renamed_terms();
     ic_naming::laws::renumbered_words_write_the_renumbered_configuration();
-    let begun = clock.millis();
+    let begun = millis_of(clock);
     let words = replace(&mut state.words, Vec::new(alloc));
     let system = system_of(alloc, rules, words, state.terms)?;
     systems_are_sound(&system);
     let timed = Timed::new(clock, watch, state.interactions);
-    let reduced = reduce_in_place(alloc, &system, bounds, &timed)?;
-    let all = clock.millis().saturating_sub(begun);
+    let reduced = reduce_by_workers(threads, clock, alloc, &system, policy, bounds, &timed)?;
+    let all = millis_of(clock).saturating_sub(begun);
     let piece = take_in(state, reduced, all, timed.millis())?;
     Ok(piece)
 }
@@ -230,8 +242,6 @@ fn take_in(
     ensures ended { OnOk result ((state.new.ended ≡ true) ↔ (reduced.end ≡ End.Quiet)) }
     ensures millis { OnOk result (state.old.millis ≤ state.new.millis) }
     ensures end { IfOk result (λ piece. piece.end ≡ reduced.end) }
-    ensures places { IfOk result (λ piece. piece.places ≡ reduced.places) }
-    ensures left { IfOk result (λ piece. piece.left ≡ reduced.left) }
     ensures equations { IfOk result (λ piece. piece.equations ≡ reduced.equations) }
     ensures refused { IfErr result (λ fault. fault ≡ KeepingFault.Limit) }
     ensures limit { length state.old.by_rule.items ≡ length reduced.by_rule.items
@@ -252,8 +262,9 @@ fn take_in(
     state.ended = is_quiet(reduced.end);
     Ok(Piece {
         end: reduced.end,
-        places: reduced.places,
+        nodes: reduced.nodes,
         left: reduced.left,
+        shared: reduced.shared,
         equations: reduced.equations,
         millis,
     })
@@ -418,11 +429,34 @@ fn stuck_of(
     }
 }
 
-/// What is told of a state: its line, where that is asked for, and the pair that is stuck.
+/// The symbol at which the first circle is closed in what a state has reached, where a piece ended quiet.
+fn circle_of(
+    alloc: Global,
+    symbols: &Symbols,
+    state: &State,
+    run: Piece,
+) -> Result<Option<Vec<u8>>, KeepingFault>
+    requires whole { IsWhole state.now.words.items }
+    requires counted { length (forest state.now.words.items)
+        ≡ state.now.terms + 2 * run.equations }
+    ensures refused { IfErr result (λ fault. fault ≡ KeepingFault.Memory) }
+{
+    match run.end {
+        End::Quiet => {
+            let terms = state.terms as usize;
+            let circle = circle_text(alloc, symbols, &state.words, terms, run.equations)?;
+            Ok(circle)
+        }
+        _ => Ok(None),
+    }
+}
+
+/// What is told of a state: its line, where that is asked for, the pair that is stuck and the circle.
 #[derive(Drop)]
 struct Told {
     line: Vec<u8>,
     stuck: Option<Vec<u8>>,
+    circle: Option<Vec<u8>>,
 }
 
 /// What is told of a state in which a piece has ended.
@@ -448,28 +482,38 @@ fn tell(
 {
     let line = line_of(alloc, symbols, state, run, asked)?;
     let stuck = stuck_of(alloc, symbols, state, run)?;
-    Ok(Told { line, stuck })
+    let circle = circle_of(alloc, symbols, state, run)?;
+    Ok(Told {
+        line,
+        stuck,
+        circle,
+    })
 }
 
-/// Goes on with a reduction from a state, in pieces, until it ends. It keeps what each piece has reached, if that goes further
-/// than what was kept last.
-pub fn go_on<D: Disk, C: Clock, V: Watch>(
+/// Goes on with a reduction from a state, in pieces, until it ends. Several threads make a piece. It keeps what each piece has
+/// reached, if that goes further than what was kept last. The rules are those of its text.
+pub fn go_on<D: Disk, T: Threads + Sync, C: Clock + Sync, V: Watch>(
+    threads: &T,
+    clock: &C,
     alloc: Global,
+    rules: Arc<RuleSet>,
     state: State,
     keeper: &mut Keeper<D>,
+    policy: Policy,
     bounds: Bounds,
     pace: Pace,
     asked: Asked,
-    clock: &C,
     watch: &V,
 ) -> Result<Ended, KeepingFault>
     // However often the reduction was stopped before, the answer is one of the system that was read first, and the
     // interactions are those of all runs.
-    ensures answer { (s : SystemParts) → IsStateOf s (kept_by state)
+    ensures answer { (s : SystemParts) → AreRulesOf s (arc_value rules)
+        → IsStateOf s (kept_by state)
         → IfOk result (λ ended.
-        IsAnswer s bounds ended.end ended.places ended.left (kept_by ended.state)) }
+        IsAnswer s bounds ended.end (kept_by ended.state)) }
     // It goes on from the state that it is given.
-    ensures from { (s : SystemParts) → IsStateOf s (kept_by state)
+    ensures from { (s : SystemParts) → AreRulesOf s (arc_value rules)
+        → IsStateOf s (kept_by state)
         → IfOk result (λ ended. IsReachedFrom s (kept_by state) (kept_by ended.state)) }
     ensures later { IfOk result (λ ended. state.interactions ≤ ended.state.interactions) }
     ensures within { IfOk result (λ ended.
@@ -477,45 +521,43 @@ pub fn go_on<D: Disk, C: Clock, V: Watch>(
     ensures millis { IfOk result (λ ended. state.millis ≤ ended.state.millis) }
     // What was reached is told to have ended exactly at a quiet end.
     ensures ended { IfOk result (λ ended. (ended.state.ended ≡ true) ↔ (ended.end ≡ End.Quiet)) }
-    ensures told { (s : SystemParts) → IsStateOf s (kept_by state)
+    ensures told { (s : SystemParts) → AreRulesOf s (arc_value rules)
+        → IsStateOf s (kept_by state)
         → IfOk result (λ ended. IsTold s asked ended) }
     ensures unstuck { IfOk result (λ ended. ended.end ≢ End.Quiet → IsNone ended.stuck) }
     // At Ok a state is kept that goes as far, and from which the answer is reached.
-    ensures kept { (s : SystemParts) → IsStateOf s (kept_by state) → IsKept (kept_by state)
+    ensures kept { (s : SystemParts) → AreRulesOf s (arc_value rules)
+        → IsStateOf s (kept_by state) → IsKept (kept_by state)
         → KeepsModel D.keeps keeper.old → Keeps D.image (state_bytes (kept_by state)) keeper.old
         → IfOk result (λ ended. (k : Kept) × IsKept k
         × IsReachedFrom s k (kept_by ended.state) × IsAsFar k (kept_by ended.state)
         × KeepsModel D.keeps keeper.new × Keeps D.image (state_bytes k) keeper.new) }
     // It keeps states of this reduction, each of which goes further than the one before it, and no others.
-    ensures way { (s : SystemParts) → IsStateOf s (kept_by state) → IsKept (kept_by state)
+    ensures way { (s : SystemParts) → AreRulesOf s (arc_value rules)
+        → IsStateOf s (kept_by state) → IsKept (kept_by state)
         → Way D.keeps D.image D.clock D.left (IsKeptAfter s) (state_bytes (kept_by state))
         keeper.old keeper.new }
     // Before anything was kept it may find that the state is none of a reduction, and not after.
     ensures unsound { IfErr result (λ fault. fault ≡ KeepingFault.Unsound → keeper.new ≡ keeper.old) }
-    // A state whose text is read as no system with as many rules as it has counts is refused as unsound, or if memory runs out,
-    // and nothing is kept.
-    ensures none { ((s : SystemParts) → ReadsSystemWithin Limits.Wide state.text.items (Ok s)
-        → length state.by_rule.items ≢ length s.rules.rules)
-        → IsErr result × (keeper.new ≡ keeper.old)
-        × IfErr result (λ fault. (fault ≡ KeepingFault.Unsound)
-        ⊎ (fault ≡ KeepingFault.Memory)) }
     // From a state of a reduction it fails only where memory runs out, at a limit, or where a keep is refused: a disk has
     // failed, or there were as many keeps as are counted.
-    ensures refused { (s : SystemParts) → IsStateOf s (kept_by state)
+    ensures refused { (s : SystemParts) → AreRulesOf s (arc_value rules)
+        → IsStateOf s (kept_by state)
         → IfErr result (λ fault. StopsARun fault) }
     ensures failed { IfErr result (λ fault. (cause : KeepFault)
         → fault ≡ KeepingFault.Keep cause → KeepFails cause keeper.old keeper.new) }
     // At a limit a net is reached from that state which is past one. So a state that is past none isn't refused as it is.
-    ensures limit { (s : SystemParts) → IsStateOf s (kept_by state)
+    ensures limit { (s : SystemParts) → AreRulesOf s (arc_value rules)
+        → IsStateOf s (kept_by state)
         → IfErr result (λ fault. fault ≡ KeepingFault.Limit → ComesPastLimits s (kept_by state)) }
     ensures unopened { IfErr result (λ fault. (cause : OpenCause)
         → fault ≢ KeepingFault.Open cause) }
 {
     states_are_reached();
-    let rules = rules_for(alloc, &state)?;
     let mut state = state;
     let mut pace = pace;
     let mut kept_ended = state.ended;
+    let mut shared: u64 = 0;
     for pieces in 0..u64::MAX {
         let left = bounds.steps.saturating_sub(state.interactions);
         let piece = Bounds {
@@ -523,18 +565,23 @@ pub fn go_on<D: Disk, C: Clock, V: Watch>(
             nodes: bounds.nodes,
         };
         let before = state.interactions;
-        let run = run_piece(alloc, &rules, &mut state, piece, clock, watch)?;
+        let run = run_piece(
+            threads, clock, alloc, &rules, &mut state, policy, piece, watch,
+        )?;
         let now_ended = keep_further(alloc, &state, before, kept_ended, keeper)?;
+        shared = shared.saturating_add(run.shared);
         if ends_run(run.end, state.interactions, bounds.steps) {
             let told = tell(alloc, rules.symbols(), &state, run, asked)?;
             return Ok(Ended {
                 end: run.end,
-                places: run.places,
+                nodes: run.nodes,
                 left: run.left,
+                shared,
                 rules,
                 state,
                 line: told.line,
                 stuck: told.stuck,
+                circle: told.circle,
             });
         }
         kept_ended = now_ended;

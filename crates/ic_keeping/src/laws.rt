@@ -26,7 +26,7 @@ ghost use Rattle.ic_in_place.specs.declared.running.End.TheVariants.{Limit, Node
 ghost use Rattle.ic_in_place.specs.declared.stream.Asked.{Asked};
 ghost use Rattle.ic_in_place.specs.Reductions.{is_written, line_reached};
 ghost use Rattle.ic_in_place.specs.Counting.{AreCounts};
-ghost use Rattle.ic_in_place.specs.Reducing.{CanInteract, HasEnds, IsPutTogether, IsReachedBy};
+ghost use Rattle.ic_in_place.specs.Reducing.{CanInteract, IsPutTogether};
 ghost use Rattle.ic_kept.specs.Course.{HoldOne, HoldOneOf, LeftOnWay, Way};
 ghost use Rattle.ic_kept.specs.Held.{Hold};
 ghost use Rattle.ic_kept.specs.Keeper.{is_broken, Keeps, KeepsModel, newest_of, number_of, other_of};
@@ -185,33 +185,20 @@ pub fn what_a_kept_state_says()
         × Reaches s.rules.rules s.config (configuration_of k.words k.terms next) fired }
 {}
 
-/// What the end of a run says that was kept: why there are no more interactions, and which of its equations are told.
+/// What the end of a run says that was kept: why there are no more interactions.
 pub fn what_a_kept_end_says()
-    ensures quiet { (s : SystemParts) (bounds : Bounds) (places left : ℕ) (k : Kept)
-        → (is : IsAnswer s bounds Quiet places left k)
-        → IsQuiet s.rules.rules is.answer × HasEnds is.answer left }
-    ensures steps { (s : SystemParts) (bounds : Bounds) (places left : ℕ) (k : Kept)
-        → (is : IsAnswer s bounds Steps places left k)
-        → (bounds.steps ≤ k.interactions) × CanInteract s.rules.rules is.answer
-        × HasEnds is.answer left }
-    ensures nodes { (s : SystemParts) (bounds : Bounds) (places left : ℕ) (k : Kept)
-        → IsAnswer s bounds Nodes places left k
-        → (bounds.nodes < places + left) × (k.interactions < bounds.steps) }
-    ensures limit { (s : SystemParts) (bounds : Bounds) (places left : ℕ) (k : Kept)
-        → IsAnswer s bounds Limit places left k → k.interactions < bounds.steps }
+    ensures quiet { (s : SystemParts) (bounds : Bounds) (k : Kept)
+        → (is : IsAnswer s bounds Quiet k) → IsQuiet s.rules.rules is.answer }
+    ensures steps { (s : SystemParts) (bounds : Bounds) (k : Kept)
+        → (is : IsAnswer s bounds Steps k)
+        → (bounds.steps ≤ k.interactions) × CanInteract s.rules.rules is.answer }
+    ensures nodes { (s : SystemParts) (bounds : Bounds) (k : Kept)
+        → IsAnswer s bounds Nodes k → k.interactions < bounds.steps }
+    ensures limit { (s : SystemParts) (bounds : Bounds) (k : Kept)
+        → IsAnswer s bounds Limit k → k.interactions < bounds.steps }
     // At each end nothing is left that could be put for a name.
-    ensures together { (s : SystemParts) (bounds : Bounds) (end : End) (places left : ℕ) (k : Kept)
-        → (is : IsAnswer s bounds end places left k) → IsPutTogether is.answer }
-    // What is told of places and equations is that of a reduction in place, which goes on from what the interactions before it
-    // lead to. With its own they are those that are told.
-    ensures piece { (s : SystemParts) (bounds : Bounds) (end : End) (places left : ℕ) (k : Kept)
-        → (is : IsAnswer s bounds end places left k)
-        → (from : SystemParts) × (most : Bounds) × (made : ℕ) × (by_rule : List ℕ)
-        × (earlier : ℕ) × (before : List ℕ)
-        × (from.rules ≡ s.rules) × (most.nodes ≡ bounds.nodes)
-        × IsOnWay s from.config earlier before × (k.interactions ≡ earlier + made)
-        × AreSums before by_rule k.by_rule
-        × IsReachedBy from most is.answer end made places left by_rule }
+    ensures together { (s : SystemParts) (bounds : Bounds) (end : End) (k : Kept)
+        → (is : IsAnswer s bounds end k) → IsPutTogether is.answer }
     ensures way { (s : SystemParts) (c : Configuration) (interactions : ℕ) (by_rule : List ℕ)
         → IsOnWay s c interactions by_rule → (fired : List ℕ)
         × Reaches s.rules.rules s.config c fired × (interactions ≡ length fired)
@@ -320,21 +307,21 @@ pub fn what_was_kept_is_read_back()
 /// Where a reduction that is kept ends quiet, its answer is the net of every order, and each rule fired as often as in every
 /// order, however often the reduction was stopped.
 pub fn a_kept_answer_is_that_of_every_order()
-    ensures net { (s : SystemParts) (bounds : Bounds) (places left : ℕ) (k : Kept) (e : Configuration)
-        (kinds : List Kind) → (is : IsAnswer s bounds Quiet places left k)
+    ensures net { (s : SystemParts) (bounds : Bounds) (k : Kept) (e : Configuration)
+        (kinds : List Kind) → (is : IsAnswer s bounds Quiet k)
         → Chain s.rules.rules kinds s.config e → IsQuiet s.rules.rules e
         → SameButNext is.answer e }
-    ensures interactions { (s : SystemParts) (bounds : Bounds) (places left : ℕ) (k : Kept)
-        (e : Configuration) (kinds : List Kind) → IsAnswer s bounds Quiet places left k
+    ensures interactions { (s : SystemParts) (bounds : Bounds) (k : Kept)
+        (e : Configuration) (kinds : List Kind) → IsAnswer s bounds Quiet k
         → Chain s.rules.rules kinds s.config e → IsQuiet s.rules.rules e
         → length (rules_fired kinds) ≡ k.interactions }
-    ensures by_rule { (s : SystemParts) (bounds : Bounds) (places left : ℕ) (k : Kept)
-        (e : Configuration) (kinds : List Kind) → IsAnswer s bounds Quiet places left k
+    ensures by_rule { (s : SystemParts) (bounds : Bounds) (k : Kept)
+        (e : Configuration) (kinds : List Kind) → IsAnswer s bounds Quiet k
         → Chain s.rules.rules kinds s.config e → IsQuiet s.rules.rules e
         → AreCounts (length s.rules.rules) (rules_fired kinds) k.by_rule }
     // What is told are the interactions of one chain of steps, and the answer is one net with its end.
-    ensures chain { (s : SystemParts) (bounds : Bounds) (end : End) (places left : ℕ) (k : Kept)
-        → (is : IsAnswer s bounds end places left k)
+    ensures chain { (s : SystemParts) (bounds : Bounds) (end : End) (k : Kept)
+        → (is : IsAnswer s bounds end k)
         → (kinds : List Kind) × (e : Configuration) × Chain s.rules.rules kinds s.config e
         × (length (rules_fired kinds) ≡ k.interactions)
         × AreCounts (length s.rules.rules) (rules_fired kinds) k.by_rule × OneNet e is.answer }
@@ -345,13 +332,13 @@ pub fn a_kept_answer_is_that_of_every_order()
 /// What is told of an answer is what a reduction that isn't kept tells of it: its line is that of the answer with its names
 /// numbered anew, and so is the pair that is stuck at a quiet end.
 pub fn a_kept_answer_is_told_as_any_other()
-    ensures line { (s : SystemParts) (bounds : Bounds) (end : End) (places left : ℕ) (k : Kept)
-        (asked : Asked) → (is : IsAnswer s bounds end places left k)
+    ensures line { (s : SystemParts) (bounds : Bounds) (end : End) (k : Kept)
+        (asked : Asked) → (is : IsAnswer s bounds end k)
         → (if is_written asked end
         then line_of s.rules.symbols (configuration_of k.words k.terms 0) else [])
         ≡ line_reached asked end s.rules.symbols is.answer }
-    ensures stuck { (s : SystemParts) (bounds : Bounds) (places left : ℕ) (k : Kept)
-        → (is : IsAnswer s bounds Quiet places left k)
+    ensures stuck { (s : SystemParts) (bounds : Bounds) (k : Kept)
+        → (is : IsAnswer s bounds Quiet k)
         → stuck_text s.rules.symbols (configuration_of k.words k.terms 0)
         ≡ stuck_text s.rules.symbols (renumbered is.answer) }
 {}

@@ -1,9 +1,10 @@
 //! A large reduction that is kept now and then, so that it survives a stop at any moment.
 //!
-//! `begun` reads a text as a state with no interactions, and `go_on` reduces what a state says in pieces, each of which is
-//! kept. A reduction that was stopped goes on from the state that was kept last.
+//! `begun` reads a text as a state with no interactions, and `live_anew` keeps it and reduces it in pieces, each of which is
+//! kept. A reduction that was stopped goes on by `live` from the state that was kept last.
 #![tactic(auto)]
 
+mod anew;
 mod beginning;
 mod counts;
 mod fault;
@@ -13,8 +14,9 @@ mod life;
 mod pace;
 mod systems;
 
-pub use beginning::{ResumeFault, begin, begun, resume};
+pub use anew::live_anew;
+pub use beginning::{ResumeFault, Start, begin, begun, resume};
 pub use fault::KeepingFault;
 pub use going::{Ended, go_on};
 pub use life::live;
-pub use pace::{Clock, Pace};
+pub use pace::Pace;

@@ -17,22 +17,27 @@ ghost use Rattle.ic_keeping.specs.Life.{IsLife, IsTold, KeepFails, StopsAnOpenin
 ghost use Rattle.ic_keeping.specs.Way.{ComesPastLimits, IsAnswer, IsAsFar, IsFormFrom, IsFormOf, IsReachedFrom};
 
 use crate::beginning::{ResumeFault, resume};
-use crate::going::{Ended, go_on};
-use crate::pace::{Clock, Pace};
+use crate::going::{Ended, go_on, rules_for};
+use crate::pace::Pace;
 use ic_disk::Disk;
 use ic_in_place::{Asked, Bounds, End, Watch};
 use ic_kept::Keeper;
+use ic_workers::Policy;
 use std::alloc::Global;
+use std::thread::Threads;
+use std::time::Clock;
 
 /// Finds the state that two files hold, and goes on with its reduction until that ends. A fault hands the disks back.
-pub fn live<D: Disk, C: Clock, V: Watch>(
+pub fn live<D: Disk, T: Threads + Sync, C: Clock + Sync, V: Watch>(
+    threads: &T,
+    clock: &C,
     alloc: Global,
     first: D,
     second: D,
+    policy: Policy,
     bounds: Bounds,
     pace: Pace,
     asked: Asked,
-    clock: &C,
     watch: &V,
 ) -> Result<(Ended, Keeper<D>), ResumeFault<D>>
     // From two files that hold a state of the reduction of a system, as after any lives of it (`laws::lives_go_on`), it answers
@@ -40,7 +45,7 @@ pub fn live<D: Disk, C: Clock, V: Watch>(
     ensures answer { (s : SystemParts) → IsTrue (D.keeps first) → IsTrue (D.keeps second)
         → HoldOne (IsFormOf s) (D.content first) (D.content second)
         → IfOk result (λ lived.
-        IsAnswer s bounds lived.0.end lived.0.places lived.0.left (kept_by lived.0.state)) }
+        IsAnswer s bounds lived.0.end (kept_by lived.0.state)) }
     ensures told { (s : SystemParts) → IsTrue (D.keeps first) → IsTrue (D.keeps second)
         → HoldOne (IsFormOf s) (D.content first) (D.content second)
         → IfOk result (λ lived. IsTold s asked lived.0) }
@@ -116,8 +121,30 @@ pub fn live<D: Disk, C: Clock, V: Watch>(
     ic_kept::laws::one_state_is_held();
     ic_state::laws::each_state_has_its_own_bytes();
     let (mut keeper, state) = resume(alloc, first, second)?;
-    match go_on(alloc, state, &mut keeper, bounds, pace, asked, clock, watch) {
-        Ok(ended) => Ok((ended, keeper)),
+    match rules_for(alloc, &state) {
+        Ok(rules) => match go_on(
+            threads,
+            clock,
+            alloc,
+            rules,
+            state,
+            &mut keeper,
+            policy,
+            bounds,
+            pace,
+            asked,
+            watch,
+        ) {
+            Ok(ended) => Ok((ended, keeper)),
+            Err(cause) => {
+                let (first, second) = keeper.close();
+                Err(ResumeFault {
+                    first,
+                    second,
+                    cause,
+                })
+            }
+        },
         Err(cause) => {
             let (first, second) = keeper.close();
             Err(ResumeFault {

@@ -4,11 +4,14 @@ ghost use Rattle.std.specs.Prelude.{◌≡◌, ◌*◌, ◌/◌, ◌^◌, max, m
 
 use ic_in_place::Watch;
 use std::cell::Cell;
+use std::time::Clock;
 
-/// What tells the time.
-pub trait Clock {
-    /// How many milliseconds have passed since some moment.
-    fn millis(&self) -> u64;
+/// The milliseconds of a clock, or 0 if it can't be read.
+pub(crate) fn millis_of<C: Clock>(clock: &C) -> u64 {
+    match clock.monotonic() {
+        Ok(time) => u64::try_from(time.as_millis()).unwrap_or(u64::MAX),
+        Err(_) => 0,
+    }
 }
 
 /// How many interactions the next piece makes, by how long the last one made interactions.
@@ -95,14 +98,14 @@ impl<'a, C: Clock, V: Watch> Timed<'a, C, V> {
 }
 
 impl<C: Clock, V: Watch> Watch for Timed<'_, C, V> {
-    fn saw(&self, interactions: u64, places: u64) {
-        let now = self.clock.millis();
+    fn saw(&self, interactions: u64, nodes: u64) {
+        let now = millis_of(self.clock);
         let first = match self.span.get() {
             Some(span) => span.first,
             None => now,
         };
         self.span.set(Some(Span { first, last: now }));
         self.watch
-            .saw(self.before.saturating_add(interactions), places);
+            .saw(self.before.saturating_add(interactions), nodes);
     }
 }

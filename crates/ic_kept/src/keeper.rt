@@ -1,6 +1,7 @@
 //! A state that is kept in two files.
 
-ghost use Rattle.std.specs.Prelude.{◌≡◌, ◌↔◌, ◌⊎◌, ◌^◌, ◌+◌, ◌-◌, ◌<◌, ◌≤◌, true, false, IsTrue, IsErrOf, IfOk, IfErr, OnOk};
+ghost use Rattle.std.specs.Prelude.{◌≡◌, ◌↔◌, ◌⊎◌, ◌^◌, ◌+◌, ◌-◌, ◌<◌, ◌≤◌, ℕ, List, true, false, IsTrue, IsErrOf, IfOk, IfErr, OnOk};
+ghost use Rattle.ic_disk.specs.Images.{Within};
 ghost use Rattle.ic_disk.specs.Time.{OneMore};
 ghost use Rattle.ic_frames.specs.Faults.{CountsKeep};
 ghost use Rattle.ic_kept.specs.Held.{Answers, Hold};
@@ -34,7 +35,9 @@ pub struct OpenFault<D> {
 impl<D: Disk> Keeper<D> {
     ghost use Rattle.ic_kept.specs.Keeper.{is_broken, is_closed, newest_of, number_of, other_of, Keeps, KeepsModel};
     ghost use Rattle.ic_kept.specs.Keeping.{CrashInKeeping, FaultLeaves, written_disk};
+    ghost use Rattle.ic_kept.specs.Lives.{AreOpened};
     ghost use Rattle.ic_kept.specs.Opening.{OnlyReads, Relates};
+    ghost use Rattle.ic_kept.specs.Sheet.{IsNewest, IsShut};
 
     /// Finds the state that two files hold. It begins with a sync of each, and changes nothing. A fault hands the disks back.
     pub fn open(
@@ -79,6 +82,25 @@ impl<D: Disk> Keeper<D> {
                 second,
                 cause,
             }),
+        }
+    }
+
+    /// What keeps the next states in two files in which `create` has just put the first one. It makes no call.
+    pub fn made(first: D, second: D) -> Keeper<D>
+        ensures newest { newest_of result ≡ first }
+        ensures other { other_of result ≡ second }
+        ensures ready { is_broken result ≡ false }
+        // They are as if they had just been opened, and that state found.
+        ensures opened { (state : List ℕ) → IsTrue (D.keeps first) → IsTrue (D.keeps second)
+            → Within (D.image first) (IsNewest 1 state) → Within (D.image second) IsShut
+            → AreOpened D.keeps D.content D.image D.clock D.left state first second result }
+    {
+        Keeper {
+            newest: first,
+            other: second,
+            number: 1,
+            closed: true,
+            broken: false,
         }
     }
 

@@ -4,14 +4,14 @@ use Rattle.std.specs.Prelude.{◌≢◌, position, nat_lt}
 use Rattle.std.specs.Result.{IsErrAnd}
 use Rattle.std.specs.List.{position_or_len}
 use Rattle.std.specs.Io.KnownBytes.{Consumes, IsAtEnd, Keeps, prepend_known}
-use Rattle.std.proofs.lemmas.Bool.{cases_Bool, false≢true, or_from, eqb-true, ltb-true, ltb-false}
+use Rattle.std.proofs.lemmas.Bool.{cases_Bool, false≢true, or_from, or_parts, eqb-true, ltb-true, ltb-false}
 use Rattle.std.proofs.lemmas.List.{take-append-drop, length-take, length-drop, take_all, drop-drop, drop_all}
 use Rattle.std.proofs.lemmas.List.Folds.{list_any-append}
 use Rattle.ic_text.specs.declared.limits.TheConstants.{MAX_TEXT}
 use Rattle.ic_lines.specs.declared.buffer.LineFault.{LineFault}
 use Rattle.ic_lines.specs.declared.buffer.LineFault.TheVariants.{LongLine}
 use Rattle.ic_lines.specs.Lines.{has_feed, lines}
-use Rattle.ic_lines.specs.Taking.{TakesLine, HasNoLine, HasLongLine, IsTooLong}
+use Rattle.ic_lines.specs.Taking.{TakesLine, HasNoLine, HasLongLine, IsFed, IsTooLong}
 use Rattle.ic_lines.specs.inner.Front.{IsFront, IsLongFront, MovesFront, Advances}
 use Rattle.ic_lines.proofs.LineLemmas.{lines_first, lines_last, lines_begin}
 
@@ -307,3 +307,77 @@ advanced_last some true len old now next line more x y off blank same p q none e
     (takes_none old now line p (end (ap said off)) (ap (λ xs. length xs == 0) (sym ex) ∙ all))
     (none_taken old now next line more y p q (sym ex ∙ no_bytes x all) nothing ey)
     (no_bytes x all)
+
+-- ---- a line that is ready
+
+-- the first line feed parts bytes in one way
+pub one_rest : (line rest other more : List ℕ) → has_feed line ≡ false → has_feed other ≡ false → line ++ 10 ∷ rest ≡ other ++ 10 ∷ more → rest ≡ more
+one_rest [] rest [] more p q is = cc
+one_rest [] rest (c ∷ cs) more p q is =
+    let parts = or_parts (c == 10) (has_feed cs) q in
+    let same : 10 ≡ c = cc in
+    let bad : true ≡ false = ap (λ b. b == 10) same ∙ parts.0 in cc
+one_rest (b ∷ bs) rest [] more p q is =
+    let parts = or_parts (b == 10) (has_feed bs) p in
+    let same : b ≡ 10 = cc in
+    let bad : true ≡ false = sym (ap (λ c. c == 10) same) ∙ parts.0 in cc
+one_rest (b ∷ bs) rest (c ∷ cs) more p q is =
+    let first = or_parts (b == 10) (has_feed bs) p in
+    let second = or_parts (c == 10) (has_feed cs) q in
+    let tails : bs ++ 10 ∷ rest ≡ cs ++ 10 ∷ more = cc in
+    one_rest bs rest cs more first.1 second.1 tails
+
+-- what follows a front without a line feed
+pub after_front : (front bytes line rest : List ℕ) → has_feed front ≡ false → has_feed line ≡ false → front ++ bytes ≡ line ++ 10 ∷ rest
+    → (left : List ℕ) × (has_feed left ≡ false) × (bytes ≡ left ++ 10 ∷ rest)
+after_front [] bytes line rest p q is = (line, q, is)
+after_front (b ∷ bs) bytes [] rest p q is =
+    let parts = or_parts (b == 10) (has_feed bs) p in
+    let same : b ≡ 10 = cc in
+    let bad : true ≡ false = sym (ap (λ c. c == 10) same) ∙ parts.0 in cc
+after_front (b ∷ bs) bytes (c ∷ cs) rest p q is =
+    let first = or_parts (b == 10) (has_feed bs) p in
+    let second = or_parts (c == 10) (has_feed cs) q in
+    let tails : bs ++ bytes ≡ cs ++ 10 ∷ rest = cc in
+    after_front bs bytes cs rest first.1 second.1 tails
+
+-- a line feed stands among bytes that one parts
+pub feed_among : (line rest : List ℕ) → has_feed (line ++ 10 ∷ rest) ≡ true
+feed_among [] rest = refl
+feed_among (b ∷ bs) rest = elim (cases_Bool (b == 10)) [
+  | inl e ↦ rw e refl
+  | inr e ↦ rw e (feed_among bs rest)
+]
+
+-- what follows the first line, also where a reader has more
+pub fed_taken : (line rest old now : List ℕ) (remaining : Option (List ℕ)) → has_feed line ≡ false → old ≡ line ++ 10 ∷ rest → now ≡ rest
+    → TakesLine line (prepend_known old remaining) (prepend_known now remaining)
+fed_taken line rest old now None unfed parted is = tt
+fed_taken line rest old now (Some text) unfed parted is =
+    ap (λ xs. lines (xs ++ text)) parted ∙ ap lines (append_assoc line (10 ∷ rest) text) ∙ lines_first line (rest ++ text) unfed
+    ∙ ap (λ xs. line ∷ lines (xs ++ text)) (sym is)
+
+-- what stands before the first line feed
+pub fed_at : (seen now : List ℕ) (feed : ℕ) → seen ≡ now → Some feed ≡ position (λ b. b == 10) seen → IsFed (take feed seen) now
+fed_at seen now feed same is =
+    let at : feed ≡ position_or_len is_feed seen = count_at seen (Some feed) is in
+    let less : position_or_len is_feed seen < length seen = some_at seen (Some feed) is refl in
+    let c : Cuts seen feed = subst (λ (n : ℕ). Cuts seen n) (sym at) (cut seen) in
+    record { rest = drop (suc feed) seen; unfed = c.unfed; parted = sym same ∙ c.fed (omega (arith, at, less)) }
+
+-- and what stands after it
+pub past_feed : (seen now bytes : List ℕ) (start feed : ℕ) (line rest : List ℕ) → seen ≡ now → drop start bytes ≡ now
+    → Some feed ≡ position (λ b. b == 10) seen → has_feed line ≡ false → now ≡ line ++ 10 ∷ rest → drop (start + (feed + 1)) bytes ≡ rest
+unfolding fed_at
+past_feed seen now bytes start feed line rest same view is unfed parted =
+    let f = fed_at seen now feed same is in
+    let next : f.rest ≡ rest = one_rest (take feed seen) f.rest line rest f.unfed unfed (sym f.parted ∙ parted) in
+    let one : feed + 1 ≡ suc feed = omega arith in
+    ap (λ n. drop (start + n) bytes) one ∙ sym (drop-drop (suc feed) start bytes) ∙ ap (drop (suc feed)) (view ∙ sym same) ∙ next
+
+pub no_feed : (seen now line rest : List ℕ) (feed : Option ℕ) → seen ≡ now → feed ≡ position (λ b. b == 10) seen → feed ≡ None → now ≡ line ++ 10 ∷ rest → ⊥
+no_feed seen now line rest feed same found none parted =
+    let all = none_at seen feed found (ap is_none none) in
+    let unfed : has_feed seen ≡ false = ap has_feed (sym (take_all (position_or_len is_feed seen) seen all)) ∙ (cut seen).unfed in
+    let fed : has_feed seen ≡ true = ap has_feed (same ∙ parted) ∙ feed_among line rest in
+    let bad : true ≡ false = sym fed ∙ unfed in cc

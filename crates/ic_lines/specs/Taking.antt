@@ -1,10 +1,10 @@
 -- What a buffer of lines holds, and what it takes from a reader.
-use Rattle.std.specs.Prelude.{◌≡◌, ℕ, ◌<◌, List, [], ◌∷◌, Option, None, Some, refl, ⊤}
+use Rattle.std.specs.Prelude.{◌≡◌, ℕ, ◌<◌, List, [], ◌∷◌, ◌++◌, false, Option, None, Some, refl, ⊤}
 use Rattle.std.specs.Coded.{Coded, code_by, coded×, coded_ℕ, coded_list}
 use Rattle.std.specs.Io.KnownBytes.{prepend_known}
 use Rattle.std.specs.Prelude.{length}
 use Rattle.ic_text.specs.declared.limits.TheConstants.{MAX_TEXT}
-use Rattle.ic_lines.specs.Lines.{lines}
+use Rattle.ic_lines.specs.Lines.{has_feed, lines}
 
 -- A line that was taken, without its line feed, and the bytes that were read and not yet taken.
 pub record BufferParts : Type 0 where
@@ -29,6 +29,12 @@ abbrev pub TakesLine : List ℕ → Option (List ℕ) → Option (List ℕ) → 
 TakesLine line None new = ⊤
 TakesLine line (Some old) None = ⊥
 TakesLine line (Some old) (Some new) = lines old ≡ line ∷ lines new
+
+-- these bytes are the first line of some, which has its line feed
+pub record IsFed (line bytes : List ℕ) : Type 0 where
+  pub rest : List ℕ
+  pub unfed : has_feed line ≡ false
+  pub parted : bytes ≡ line ++ 10 ∷ rest
 
 -- no line is to come
 abbrev pub HasNoLine : Option (List ℕ) → Type 0

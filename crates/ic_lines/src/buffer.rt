@@ -1,8 +1,9 @@
 //! Lines that are taken from a reader, one at a time.
 
-ghost use Rattle.std.specs.Prelude.{◌≡◌, ◌≢◌, ◌≤◌, ◌==◌, ◌++◌, [], false, true, length, Ok, Err, OnOk, OnErr, position};
+ghost use Rattle.std.specs.Prelude.{◌≡◌, ◌≢◌, ◌≤◌, ◌==◌, ◌++◌, ℕ, List, [], ◌∷◌, Option, false, true, length, Ok, Err, IfSome, OnOk, OnErr, position};
 ghost use Rattle.std.specs.Io.KnownBytes.{Consumes, IsAtEnd, Keeps};
-ghost use Rattle.ic_lines.specs.Taking.{to_come, TakesLine, HasNoLine, HasLongLine};
+ghost use Rattle.ic_lines.specs.Lines.{has_feed};
+ghost use Rattle.ic_lines.specs.Taking.{to_come, TakesLine, HasNoLine, HasLongLine, IsFed};
 ghost use Rattle.ic_lines.specs.declared.buffer.LineFault.TheVariants.{LongLine};
 
 use ic_text::MAX_TEXT;
@@ -12,7 +13,7 @@ use std::marker::Model;
 use std::mem::swap;
 
 /// How many bytes are read at a time.
-const CHUNK: usize = 8_192;
+const CHUNK: usize = 65_536;
 
 /// Why no line is taken.
 #[derive(Clone, Copy, Debug, PartialEq, Eq)]
@@ -91,6 +92,28 @@ impl Ahead {
         }
         self.start += 1;
         Ok(true)
+    }
+
+    /// The bytes up to the first line feed, where there is one.
+    fn first_line(&self) -> Option<&[u8]>
+        ensures { IfSome result (λ line. IsFed line.now self.now) }
+    {
+        let ahead = &self.bytes[self.start..];
+        match place_of_feed(ahead) {
+            None => None,
+            Some(feed) => Some(&ahead[..feed]),
+        }
+    }
+
+    /// Passes over the bytes up to the first line feed, and over this, where there is one.
+    fn pass_line(&mut self)
+        ensures { (line rest : List ℕ) → has_feed line ≡ false → self.old ≡ line ++ 10 ∷ rest
+            → self.new ≡ rest }
+    {
+        match place_of_feed(&self.bytes[self.start..]) {
+            None => {}
+            Some(feed) => self.start += feed + 1,
+        }
     }
 
     /// Reads what comes next, where nothing was read ahead. Tells whether anything came. The memory for it is
@@ -192,6 +215,31 @@ impl LineBuffer {
     {
         self.line.clear();
         self.advance(reader, writer)
+    }
+
+    /// The next line, where all of it was read already, with its line feed. It isn't taken.
+    pub fn ready_line(&self) -> Option<&[u8]>
+        ensures fed { IfSome result (λ line. IsFed line.now self.now.ahead) }
+        ensures short { IfSome result (λ line. length line.now ≤ MAX_TEXT) }
+    {
+        if !self.front.is_empty() {
+            return None;
+        }
+        let line = self.ahead.first_line()?;
+        if line.len() > MAX_TEXT {
+            return None;
+        }
+        Some(line)
+    }
+
+    /// Takes the next line, where all of it was read already, and leaves the line that was taken last.
+    pub fn pass_line(&mut self)
+        ensures taken { (line : List ℕ) (remaining : Option (List ℕ)) → IsFed line self.old.ahead
+            → TakesLine line (to_come self.old remaining) (to_come self.new remaining) }
+        ensures line { self.new.line ≡ self.old.line }
+    {
+        self.front.clear();
+        self.ahead.pass_line();
     }
 
     /// Moves the next line from what was read ahead, and from what the reader gives after it, into an empty line.

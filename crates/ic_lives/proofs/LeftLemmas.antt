@@ -5,7 +5,8 @@ use Rattle.ic_jobs.specs.declared.event.Entry.{Entry}
 use Rattle.ic_jobs.specs.Job.{JobParts}
 use Rattle.ic_jobs.specs.History.{replay}
 use Rattle.ic_slots.specs.Held.{HoldsTable}
-use Rattle.ic_book.specs.Kept.{HoldsKeptOrAll, IsHistory}
+use Rattle.ic_book.specs.Kept.{IsHistory}
+use Rattle.ic_book.specs.Left.{HoldsKeptOrAll}
 use Rattle.ic_book.specs.Lives.{IsPage}
 
 -- how many entries are in the table that is left

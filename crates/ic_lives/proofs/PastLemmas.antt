@@ -5,7 +5,7 @@ use Rattle.ic_jobs.specs.declared.command.Command.{Command}
 use Rattle.ic_jobs.specs.declared.event.Entry.{Entry}
 use Rattle.ic_jobs.specs.declared.reply.Reply.{Reply}
 use Rattle.ic_book.specs.Entries.{command_entry, round_entry}
-use Rattle.ic_book.specs.Moves.{Move, opens, refuses, answers, fails, rounds, keeps, stays, closes, stops, brings}
+use Rattle.ic_book.specs.Moves.{Move, opens, refuses, answers, fails, takes, rounds, keeps, stays, closes, stops, brings}
 use Rattle.ic_lives.specs.Past.{Past, Cuts, Next, Leads, IsPast}
 
 -- all that lasted then begins what has come now, and lasts
@@ -58,6 +58,7 @@ next opens then old new is step = cut then old new is step
 next (refuses cause) then old new is step = subst (Begins then) (sym step) is
 next (answers who command reply) then old new is step = lasting_all then old new (command_entry who command reply ∷ []) is step.0 step.1
 next (fails who command reply) then old new is step = passing then old new (command_entry who command reply ∷ []) is step.0 step.1
+next (takes who command reply) then old new is step = passing then old new (command_entry who command reply ∷ []) is step.0 step.1
 next (rounds name reply) then old new is step = passing then old new (round_entry name reply ∷ []) is step.0 step.1
 next keeps then old new is step = kept then old new is step.0 step.1
 next stays then old new is step = subst (Begins then) (sym step) is

@@ -2,7 +2,7 @@
 use Rattle.ic_disk.specs.declared.disk.Disk.{Ghosts}
 use Rattle.ic_book.specs.declared.book.Book.{Book}
 use Rattle.ic_book.specs.Book.{disk_of}
-use Rattle.ic_book.specs.Moves.{Move, opens, refuses, answers, fails, rounds, keeps, stays, closes, stops}
+use Rattle.ic_book.specs.Moves.{Move, opens, refuses, answers, fails, takes, rounds, keeps, stays, closes, stops}
 use Rattle.ic_book.specs.Server.{down, up, IsFound, Step}
 
 module _ {D : Type 0} {ghosts : Ghosts D} where
@@ -12,6 +12,7 @@ module _ {D : Type 0} {ghosts : Ghosts D} where
   step_stop (refuses cause) before after found is here = (up after, is, here)
   step_stop (answers who command reply) before after found is here = (up after, is, here)
   step_stop (fails who command reply) before after found is here = (up after, is, here)
+  step_stop (takes who command reply) before after found is here = (up after, is, here)
   step_stop (rounds name reply) before after found is here = (up after, is, here)
   step_stop keeps before after found is here = (up after, is, here)
   step_stop stays before after found is here = (up after, is, here)

@@ -4,9 +4,9 @@ use Rattle.ic_jobs.specs.declared.command.Command.{Command}
 use Rattle.ic_jobs.specs.declared.event.Entry.{Entry}
 use Rattle.ic_jobs.specs.declared.reply.Reply.{Reply}
 use Rattle.ic_book.specs.Entries.{command_entry, round_entry}
-use Rattle.ic_book.specs.Moves.{Move, opens, refuses, answers, fails, rounds, keeps, stays, closes, stops, brings}
-use Rattle.ic_lives.specs.Histories.{answered, come, StandAmong}
-use Rattle.ic_lives.specs.lemmas.AmongLemmas.{answered_join}
+use Rattle.ic_book.specs.Moves.{Move, opens, refuses, answers, fails, takes, rounds, keeps, stays, closes, stops, brings}
+use Rattle.ic_lives.specs.Histories.{answered, come, taken, StandAmong}
+use Rattle.ic_lives.specs.lemmas.AmongLemmas.{answered_parts}
 use Rattle.ic_lives.proofs.WordLemmas.{among_at}
 
 -- ---- what has come
@@ -63,6 +63,7 @@ brings_few opens = inl refl
 brings_few (refuses cause) = inl refl
 brings_few (answers who command reply) = inr (command_entry who command reply, refl)
 brings_few (fails who command reply) = inr (command_entry who command reply, refl)
+brings_few (takes who command reply) = inr (command_entry who command reply, refl)
 brings_few (rounds name reply) = inr (round_entry name reply, refl)
 brings_few keeps = inl refl
 brings_few stays = inl refl
@@ -125,6 +126,8 @@ brought_at moves front back e is =
 -- ---- what moves have answered
 
 pub answer_told : (later earlier : List Move) (who : ℕ) (command : Command) (reply : Reply)
-    → answered (later ++ answers who command reply ∷ earlier) ≡ answered earlier ++ command_entry who command reply ∷ answered later
+    → answered (later ++ answers who command reply ∷ earlier) ≡ (answered earlier ++ taken earlier) ++ command_entry who command reply ∷ answered later
 answer_told later earlier who command reply =
-    answered_join later (answers who command reply ∷ earlier) ∙ append_assoc (answered earlier) (command_entry who command reply ∷ []) (answered later)
+    let one = command_entry who command reply ∷ [] in
+    answered_parts (answers who command reply ∷ earlier) refl later ∙ ap (λ (l : List Entry). l ++ answered later) (sym (append_assoc (answered earlier) (taken earlier) one))
+    ∙ append_assoc (answered earlier ++ taken earlier) one (answered later)

@@ -3,12 +3,24 @@ use Rattle.std.specs.Prelude.{◌≡◌, ◌⊎◌, List, [], ◌∷◌, ◌++�
 use Rattle.ic_jobs.specs.declared.event.Entry.{Entry}
 use Rattle.ic_jobs.specs.History.{IsLegal}
 use Rattle.ic_book.specs.Entries.{command_entry}
-use Rattle.ic_book.specs.Moves.{Move, answers, brings}
+use Rattle.ic_book.specs.Moves.{Move, opens, answers, takes, keeps, brings}
 
--- the commands that these moves have answered, with their replies, in order
+-- the commands that these moves have taken and not kept since, with their replies, in order
+abbrev pub taken : List Move → List Entry
+taken [] = []
+taken (takes who command reply ∷ moves) = taken moves ++ command_entry who command reply ∷ []
+taken (answers who command reply ∷ moves) = []
+taken (keeps ∷ moves) = []
+taken (opens ∷ moves) = []
+taken (move ∷ moves) = taken moves
+
+-- The commands that these moves have answered, with their replies, in order. One that was taken is
+-- answered by what keeps it: a keep, or a later command that is answered.
 abbrev pub answered : List Move → List Entry
 answered [] = []
-answered (answers who command reply ∷ moves) = answered moves ++ command_entry who command reply ∷ []
+answered (answers who command reply ∷ moves) =
+    answered moves ++ (taken moves ++ command_entry who command reply ∷ [])
+answered (keeps ∷ moves) = answered moves ++ taken moves
 answered (move ∷ moves) = answered moves
 
 -- all commands and rounds that have come by them, in order

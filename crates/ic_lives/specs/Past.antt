@@ -2,7 +2,7 @@
 use Rattle.std.specs.Prelude.{◌≡◌, ◌≤◌, ℕ, List, [], ◌∷◌, ◌++◌, length, take}
 use Rattle.ic_jobs.specs.declared.event.Entry.{Entry}
 use Rattle.ic_book.specs.Entries.{command_entry, round_entry}
-use Rattle.ic_book.specs.Moves.{Move, opens, refuses, answers, fails, rounds, keeps, stays, closes, stops, brings}
+use Rattle.ic_book.specs.Moves.{Move, opens, refuses, answers, fails, takes, rounds, keeps, stays, closes, stops, brings}
 
 -- All that has come except for what openings didn't find, in order, and how many of these entries
 -- last whatever stop comes: those up to the last answered command, keep or opening.
@@ -42,6 +42,8 @@ Next (refuses cause) old new = new ≡ old
 Next (answers who command reply) old new =
     Grows (command_entry who command reply ∷ []) old new × AllLast new
 Next (fails who command reply) old new =
+    Grows (command_entry who command reply ∷ []) old new × AsManyLast old new
+Next (takes who command reply) old new =
     Grows (command_entry who command reply ∷ []) old new × AsManyLast old new
 Next (rounds name reply) old new =
     Grows (round_entry name reply ∷ []) old new × AsManyLast old new

@@ -12,8 +12,9 @@ ghost use Rattle.ic_jobs.specs.History.{replay, IsLegal};
 ghost use Rattle.ic_jobs.specs.Life.{Life, life, IsAsLived};
 ghost use Rattle.ic_frames.specs.Fields.{IsMade};
 ghost use Rattle.ic_slots.specs.Held.{HoldsTable, IsHeld, the_table};
-ghost use Rattle.ic_book.specs.Kept.{HoldsKeptOrAll, IsHistory};
-ghost use Rattle.ic_book.specs.Calls.{LeavesKeptOrAll};
+ghost use Rattle.ic_book.specs.Kept.{IsHistory};
+ghost use Rattle.ic_book.specs.Crashes.{LeavesKeptOrAll};
+ghost use Rattle.ic_book.specs.Left.{HoldsKeptOrAll};
 ghost use Rattle.ic_book.specs.Book.{start_of, kept_of, disk_of};
 ghost use Rattle.ic_book.specs.Lives.{Page, IsPage, AreLives, left_by, lived};
 

@@ -15,11 +15,11 @@ ghost use Rattle.ic_jobs.specs.Table.{job_named};
 ghost use Rattle.ic_slots.specs.Held.{HoldsTable};
 ghost use Rattle.ic_book.specs.Book.{table_of};
 ghost use Rattle.ic_book.specs.Entries.{command_entry};
-ghost use Rattle.ic_book.specs.Moves.{Move, answers, brings};
+ghost use Rattle.ic_book.specs.Moves.{Move, opens, answers, takes, keeps, brings};
 ghost use Rattle.ic_book.specs.Server.{Runs, Server, down, up};
 ghost use Rattle.ic_lives.specs.Headline.{AreIterates};
 ghost use Rattle.ic_lives.specs.Looks.{AreTold, Tells};
-ghost use Rattle.ic_lives.specs.Histories.{IsHistoryOf, StandAmong, answered, come};
+ghost use Rattle.ic_lives.specs.Histories.{IsHistoryOf, StandAmong, answered, come, taken};
 ghost use Rattle.ic_lives.specs.Past.{IsPast, Next, Past};
 
 use ic_book::Book;
@@ -44,12 +44,28 @@ pub fn each_entry_was_brought()
         × StandAmong back (come later) }
 {}
 
-/// What moves have answered has each command that one of them answers, between what the earlier ones
-/// and the later ones have answered.
+/// What moves have answered has each command that one of them answers. In front of it is what the
+/// earlier ones have answered and taken, and after it what the later ones have answered.
 pub fn each_answer_is_told()
     ensures { (later earlier : List Move) (who : ℕ) (command : Command) (reply : Reply)
         → answered (later ++ answers who command reply ∷ earlier)
-        ≡ answered earlier ++ command_entry who command reply ∷ answered later }
+        ≡ (answered earlier ++ taken earlier) ++ command_entry who command reply ∷ answered later }
+{}
+
+/// A command that is taken isn't answered yet. A keep answers all that was taken, and an opening finds
+/// what of it was kept, so none is left then. What moves and those after them have answered stands
+/// among what all of them have.
+pub fn what_is_taken_is_answered()
+    ensures takes { (moves : List Move) (who : ℕ) (command : Command) (reply : Reply)
+        → (answered (takes who command reply ∷ moves) ≡ answered moves)
+        × (taken (takes who command reply ∷ moves)
+        ≡ taken moves ++ command_entry who command reply ∷ []) }
+    ensures keeps { (moves : List Move) → (answered (keeps ∷ moves) ≡ answered moves ++ taken moves)
+        × (taken (keeps ∷ moves) ≡ []) }
+    ensures opens { (moves : List Move) → (answered (opens ∷ moves) ≡ answered moves)
+        × (taken (opens ∷ moves) ≡ []) }
+    ensures later { (later earlier : List Move)
+        → StandAmong (answered earlier ++ answered later) (answered (later ++ earlier)) }
 {}
 
 /// A job of such a table lives by the history. Its configuration is the iterate of the round on the
@@ -69,14 +85,14 @@ pub fn exactly_the_living_have_a_job()
 {}
 
 /// Each answered command stands in a history of moves, after what earlier moves have answered and
-/// before what later ones have. Its reply is the one over the table that all entries before it leave.
+/// taken and before what later ones have answered. Its reply is the one over the table that all entries before it leave.
 pub fn each_answered_command_stands()
     ensures { (later earlier : List Move) (who : ℕ) (command : Command) (reply : Reply)
         (history : List Entry)
         → IsHistoryOf (later ++ answers who command reply ∷ earlier) history
         → (before after : List Entry)
         × (history ≡ before ++ command_entry who command reply ∷ after)
-        × StandAmong (answered earlier) before × StandAmong (answered later) after
+        × StandAmong (answered earlier ++ taken earlier) before × StandAmong (answered later) after
         × IsAnswered (replay [] before) (by_command command) reply }
 {
     ic_jobs::laws::histories_split_and_join();

@@ -15,12 +15,13 @@ use Rattle.ic_arena.specs.Piece.{Piece, equated, agent_with, room, uses}
 use Rattle.ic_arena.specs.Tables.{Replaced, Blocks, names_pieces}
 use Rattle.ic_machine.specs.declared.equation.Equation.{Equation}
 use Rattle.ic_machine.specs.Plan.{Made, Planned, Plans, constants, pieces_made}
-use Rattle.ic_machine.specs.Net.{equated_of, IsPairPiece}
+use Rattle.ic_machine.specs.Net.{equated_of}
 use Rattle.ic_machine.specs.Separate.{IsSeparate, is_constant_tag}
-use Rattle.ic_machine.specs.Runs.{Way}
-use Rattle.ic_machine.specs.Steps.{AreFresh, Fires, Steps, no_step}
+use Rattle.ic_machine.specs.Generations.{FiresPair}
+use Rattle.ic_machine.specs.Steps.{AreFresh, Fires}
 use Rattle.ic_machine.specs.inner.Firing.{heaps_pieces, arities_of, AreSame, Taken}
 use Rattle.ic_machine.specs.inner.Tables.{IsNumbered}
+use Rattle.ic_machine.specs.lemmas.Balance.{equations_room}
 use Rattle.ic_machine.specs.lemmas.FiresKeep.{agent_uses, agent_room}
 use Rattle.ic_machine.specs.lemmas.Orders.{to_front, replaced_sum}
 use Rattle.ic_machine.specs.lemmas.Orders as orders
@@ -65,72 +66,125 @@ pair_order n h0 h1 h2 l r f rest x first second =
     (IsPermutation-trans (n ++ (h0 ++ g)) (n ++ (l ++ (r ++ (h2 ++ g)))) (l ++ (r ++ (n ++ (h2 ++ g)))) one two)
     three
 
--- The last pending pair fires, and what its plan makes is linked.
-pub fire_way : (q : Plans) (i a b : ℕ) (p : Planned) (front : List Equation) (e : Equation) (k m : ℕ)
-    (ns : List Word) (h0 h1 h2 : List Blocks) (r0 r1 r2 names made : List Word) (rest end : List Piece)
+module _ (q : Plans) (i a b : ℕ) (p : Planned) (front : List Equation) (e : Equation) (k m : ℕ)
+    (ns : List Word) (h0 h1 h2 : List Blocks) (r0 r1 r2 names made : List Word) (rest : List Piece)
     (l : Taken e.left k (heaps_pieces 0 h0) (heaps_pieces 0 h1) r0 r1)
-    (r : Taken e.right m (heaps_pieces 0 h1) (heaps_pieces 0 h2) r1 r2)
-    → e.left.tag ≡ a + 1 → e.right.tag ≡ b + 1
-    → slice_get q.arities a ≡ Some k → slice_get q.arities b ≡ Some m → IsNumbered q i a b p
-    → r0 ≡ constants (length q.arities) → length names ≡ p.names → length made ≡ length p.made
-    → AllByRecursion (λ w. w.tag ≡ NAME) names
-    → map (λ (w : Word). w.tag) made ≡ map (λ (m : Made). m.symbol + 1) p.made
-    → AreFresh (names ++ made) (names_pieces 0 ns ++ (heaps_pieces 0 h2 ++ (map equated_of front ++ rest)))
-    → Steps q [] (pieces_made p (r2 ++ (names ++ made)) names made
-    ++ (names_pieces 0 ns ++ (heaps_pieces 0 h2 ++ (map equated_of front ++ rest)))) end
-    → AllByRecursion IsPairPiece (names_pieces 0 ns ++ (heaps_pieces 0 h0 ++ (map equated_of (front ++ e ∷ []) ++ rest)))
-    → Way q (i ∷ []) ((pieces_made p (r2 ++ (names ++ made)) names made
-    ++ (names_pieces 0 ns ++ (heaps_pieces 0 h2 ++ (map equated_of front ++ rest)))) ∷ [])
-    (names_pieces 0 ns ++ (heaps_pieces 0 h0 ++ (map equated_of (front ++ e ∷ []) ++ rest))) end
-fire_way q i a b p front e k m ns h0 h1 h2 r0 r1 r2 names made rest end l r la ra ka kb number first nc mc nt mt fresh links pairs =
-    let others : List Piece = names_pieces 0 ns ++ (heaps_pieces 0 h2 ++ (map equated_of front ++ rest)) in
-    let xs : List Piece = names_pieces 0 ns
-    ++ (heaps_pieces 0 h0 ++ (map equated_of (front ++ e ∷ []) ++ rest)) in
-    let left : Word = agent_word a e.left.index in
-    let right : Word = agent_word b e.right.index in
-    let regs : List Word = constants (length q.arities) ++ (l.args ++ (r.args ++ (names ++ made))) in
-    let mid : List Piece = pieces_made p (r2 ++ (names ++ made)) names made ++ others in
-    let filled = ap (λ (z : List Word). z ++ (names ++ made)) r.pushed
-    ∙ (append_assoc r1 r.args (names ++ made)
-    ∙ (ap (λ (z : List Word). z ++ (r.args ++ (names ++ made))) l.pushed
-    ∙ (append_assoc r0 l.args (r.args ++ (names ++ made))
-    ∙ ap (λ (z : List Word). z ++ (l.args ++ (r.args ++ (names ++ made)))) first))) in
-    let order = subst (λ (z : List Piece). IsPermutation (names_pieces 0 ns ++ (heaps_pieces 0 h0 ++ (z ++ rest)))
-    (equated_of e ∷ (agent_with e.left l.args ++ (agent_with e.right r.args ++ others))))
-    (sym (map-append equated_of front (e ∷ [])))
-    (pair_order (names_pieces 0 ns) (heaps_pieces 0 h0) (heaps_pieces 0 h1) (heaps_pieces 0 h2)
-    (agent_with e.left l.args) (agent_with e.right r.args) (map equated_of front) rest (equated_of e)
-    (taken_first (agent_with e.left l.args) (heaps_pieces 0 h0) (heaps_pieces 0 h1) l.gone)
-    (taken_first (agent_with e.right r.args) (heaps_pieces 0 h1) (heaps_pieces 0 h2) r.gone)) in
-    let given = subst (λ (v : Word). IsPermutation xs (equated left v ∷ (agent_with left l.args ++ (agent_with v r.args ++ others))))
-    (as_agent e.right b ra)
-    (subst (λ (v : Word). IsPermutation xs (equated v e.right ∷ (agent_with v l.args ++ (agent_with e.right r.args ++ others))))
-    (as_agent e.left a la) order) in
-    let fire : Fires q i xs mid = record {
-      left = a;
-      right = b;
-      left_place = e.left.index;
-      right_place = e.right.index;
-      left_args = l.args;
-      right_args = r.args;
-      plan = p;
-      names = names;
-      made = made;
-      rest = others;
-      number = number.number;
-      has_plan = number.has_plan;
-      left_arity = ka ∙ ap (λ (n : ℕ). Some n) (sym l.count);
-      right_arity = kb ∙ ap (λ (n : ℕ). Some n) (sym r.count);
-      given = given;
-      names_count = nc;
-      made_count = mc;
-      name_tags = nt;
-      made_tags = mt;
-      fresh = fresh;
-      result = subst (λ (z : List Word). IsPermutation mid (pieces_made p z names made ++ others)) filled
-          (IsPermutation-refl mid);
-    } in
-    (record { before = xs; steps = no_step xs xs (IsPermutation-refl xs); pairs = pairs; fires = fire }, links)
+    (r : Taken e.right m (heaps_pieces 0 h1) (heaps_pieces 0 h2) r1 r2) where
+  -- what is there as the pair has fired, and nothing is linked
+  abbrev pub fired_pieces : List Piece
+  fired_pieces = pieces_made p (r2 ++ (names ++ made)) names made
+      ++ (names_pieces 0 ns ++ (heaps_pieces 0 h2 ++ (map equated_of front ++ rest)))
+
+  -- The last pending pair fires.
+  pub fire_pair : e.left.tag ≡ a + 1 → e.right.tag ≡ b + 1
+      → slice_get q.arities a ≡ Some k → slice_get q.arities b ≡ Some m → IsNumbered q i a b p
+      → r0 ≡ constants (length q.arities) → length names ≡ p.names → length made ≡ length p.made
+      → AllByRecursion (λ w. w.tag ≡ NAME) names
+      → map (λ (w : Word). w.tag) made ≡ map (λ (m : Made). m.symbol + 1) p.made
+      → AreFresh (names ++ made) (names_pieces 0 ns ++ (heaps_pieces 0 h2 ++ (map equated_of front ++ rest)))
+      → FiresPair q e i (names_pieces 0 ns ++ (heaps_pieces 0 h0 ++ (map equated_of (front ++ e ∷ []) ++ rest))) fired_pieces
+  fire_pair la ra ka kb number first nc mc nt mt fresh =
+      let others : List Piece = names_pieces 0 ns ++ (heaps_pieces 0 h2 ++ (map equated_of front ++ rest)) in
+      let xs : List Piece = names_pieces 0 ns
+      ++ (heaps_pieces 0 h0 ++ (map equated_of (front ++ e ∷ []) ++ rest)) in
+      let left : Word = agent_word a e.left.index in
+      let right : Word = agent_word b e.right.index in
+      let regs : List Word = constants (length q.arities) ++ (l.args ++ (r.args ++ (names ++ made))) in
+      let mid : List Piece = fired_pieces in
+      let filled = ap (λ (z : List Word). z ++ (names ++ made)) r.pushed
+      ∙ (append_assoc r1 r.args (names ++ made)
+      ∙ (ap (λ (z : List Word). z ++ (r.args ++ (names ++ made))) l.pushed
+      ∙ (append_assoc r0 l.args (r.args ++ (names ++ made))
+      ∙ ap (λ (z : List Word). z ++ (l.args ++ (r.args ++ (names ++ made)))) first))) in
+      let order = subst (λ (z : List Piece). IsPermutation (names_pieces 0 ns ++ (heaps_pieces 0 h0 ++ (z ++ rest)))
+      (equated_of e ∷ (agent_with e.left l.args ++ (agent_with e.right r.args ++ others))))
+      (sym (map-append equated_of front (e ∷ [])))
+      (pair_order (names_pieces 0 ns) (heaps_pieces 0 h0) (heaps_pieces 0 h1) (heaps_pieces 0 h2)
+      (agent_with e.left l.args) (agent_with e.right r.args) (map equated_of front) rest (equated_of e)
+      (taken_first (agent_with e.left l.args) (heaps_pieces 0 h0) (heaps_pieces 0 h1) l.gone)
+      (taken_first (agent_with e.right r.args) (heaps_pieces 0 h1) (heaps_pieces 0 h2) r.gone)) in
+      let given = subst (λ (v : Word). IsPermutation xs (equated left v ∷ (agent_with left l.args ++ (agent_with v r.args ++ others))))
+      (as_agent e.right b ra)
+      (subst (λ (v : Word). IsPermutation xs (equated v e.right ∷ (agent_with v l.args ++ (agent_with e.right r.args ++ others))))
+      (as_agent e.left a la) order) in
+      let fire : Fires q i xs mid = record {
+        left = a;
+        right = b;
+        left_place = e.left.index;
+        right_place = e.right.index;
+        left_args = l.args;
+        right_args = r.args;
+        plan = p;
+        names = names;
+        made = made;
+        rest = others;
+        number = number.number;
+        has_plan = number.has_plan;
+        left_arity = ka ∙ ap (λ (n : ℕ). Some n) (sym l.count);
+        right_arity = kb ∙ ap (λ (n : ℕ). Some n) (sym r.count);
+        given = given;
+        names_count = nc;
+        made_count = mc;
+        name_tags = nt;
+        made_tags = mt;
+        fresh = fresh;
+        result = subst (λ (z : List Word). IsPermutation mid (pieces_made p z names made ++ others)) filled
+            (IsPermutation-refl mid);
+      } in
+      record { fires = fire; left = as_agent e.left a la; right = as_agent e.right b ra }
+
+-- A pair that fires, in another order of the pieces.
+pub pair_from : (p : Plans) (e : Equation) (i : ℕ) (xs' xs ys : List Piece) → IsPermutation xs' xs → FiresPair p e i xs ys
+    → FiresPair p e i xs' ys
+pair_from p e i xs' xs ys h f =
+    let s : Fires p i xs ys = f.fires in
+    record {
+      fires = record {
+        left = s.left;
+        right = s.right;
+        left_place = s.left_place;
+        right_place = s.right_place;
+        left_args = s.left_args;
+        right_args = s.right_args;
+        plan = s.plan;
+        names = s.names;
+        made = s.made;
+        rest = s.rest;
+        number = s.number;
+        has_plan = s.has_plan;
+        left_arity = s.left_arity;
+        right_arity = s.right_arity;
+        given = IsPermutation-trans xs' xs _ h s.given;
+        names_count = s.names_count;
+        made_count = s.made_count;
+        name_tags = s.name_tags;
+        made_tags = s.made_tags;
+        fresh = s.fresh;
+        result = s.result;
+      };
+      left = f.left;
+      right = f.right;
+    }
+
+-- the pair first
+pub pair_first : (p : Plans) (e : Equation) (i : ℕ) (n h rest ys : List Piece)
+    → FiresPair p e i (n ++ (h ++ equated_of e ∷ rest)) ys → FiresPair p e i (equated_of e ∷ (n ++ (h ++ rest))) ys
+pair_first p e i n h rest ys f =
+    let x : Piece = equated_of e in
+    let middle = subst (λ (z : List Piece). IsPermutation z (x ∷ (n ++ (h ++ rest)))) (append_assoc n h (x ∷ rest))
+    (subst (λ (z : List Piece). IsPermutation ((n ++ h) ++ x ∷ rest) (x ∷ z)) (append_assoc n h rest)
+    (IsPermutation-middle (n ++ h) x rest)) in
+    pair_from p e i (x ∷ (n ++ (h ++ rest))) (n ++ (h ++ x ∷ rest)) ys
+    (IsPermutation-sym (n ++ (h ++ x ∷ rest)) (x ∷ (n ++ (h ++ rest))) middle) f
+
+-- What is fresh beside equations is so without some of them.
+pub fresh_fewer : (ws : List Word) (n h : List Piece) (f g : List Equation)
+    → AreFresh ws (n ++ (h ++ (map equated_of f ++ map equated_of g))) → AreFresh ws (n ++ (h ++ map equated_of g))
+fresh_fewer [] n h f g s = tt
+fresh_fewer (w ∷ ws) n h f g s =
+    let none = equations_room w f in
+    let all : sum_by (room w) (n ++ (h ++ (map equated_of f ++ map equated_of g))) ≡ 0 = s.0 in
+    (omega (arith, sum_by-append {X = Piece}), s.1, fresh_fewer ws n h f g s.2)
 
 -- what is past the end of a list
 pub get_past : (xs : List ℕ) (s : ℕ) → length xs ≤ s → slice_get xs s ≡ None

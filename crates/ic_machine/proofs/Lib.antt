@@ -37,3 +37,8 @@ pub mod Agents
 pub mod Opening
 pub mod Waiting
 pub mod ByHand
+pub mod Changed
+pub mod Exchanged
+pub mod Takings
+pub mod Advancing
+pub mod Heads

@@ -1,7 +1,8 @@
 -- How the number of a pair of symbols is found: none, and one more.
 use Rattle.std.proofs.Common.{◌≡◌, ℕ, ◌+◌, ◌*◌, ◌^◌, ◌/◌, ◌%◌, ◌<◌, ◌==◌, ◌&&◌, Bool, true, false, cond, List, [], ◌∷◌, ◌++◌, Option, None, Some, length, set, slice_index_or, nat_lt, refl, sym, ap, ◌∙◌, arith}
 use Rattle.std.specs.Cmp.{unsigned_Decides}
-use Rattle.std.specs.HashMap.{get}
+use Rattle.std.specs.Ordering.{nat_cmp}
+use Rattle.std.specs.BTreeMap.{get}
 use Rattle.std.proofs.lemmas.Bool.{and_from, and_parts, false_from_ne_true, ltb-true, ltb-false, lt-ltb}
 use Rattle.std.proofs.lemmas.List.{get_or-set_same, get_or-set_other}
 use Rattle.std.proofs.lemmas.Nat.{mul-add-lt, div-mul-add, mod-mul-add}
@@ -35,7 +36,7 @@ module _ (rows : ℕ) (es : List (Option ℕ)) (others : Keyed) (a b number : �
     put_row x y = by (nat_lt x rows && nat_lt y rows) refl
       where
         other : Option ℕ
-        other = cond (nat_lt y (2 ^ 32)) (get (λ m n. m == n) others (key_of x y)) None
+        other = cond (nat_lt y (2 ^ 32)) (get nat_cmp others (key_of x y)) None
 
         by : (c : Bool) → (nat_lt x rows && nat_lt y rows) ≡ c
             → cond c (slice_index_or (set es (a * rows + b) (Some number)) (x * rows + y) None) other
@@ -50,9 +51,9 @@ module _ (rows : ℕ) (es : List (Option ℕ)) (others : Keyed) (a b number : �
 
   -- a number that is found by its key
   module _ (new : Keyed) (high : (a < rows → b < rows → ⊥)) (few : b < 2 ^ 32)
-      (updated : (k : ℕ) → get (λ m n. m == n) new k ≡ cond (key_of a b == k) (Some number) (get (λ m n. m == n) others k)) where
+      (updated : (k : ℕ) → get nat_cmp new k ≡ cond (key_of a b == k) (Some number) (get nat_cmp others k)) where
     key_read : (x y : ℕ) → y < 2 ^ 32 → (c d : Bool) → (a == x && b == y) ≡ c → (key_of a b == key_of x y) ≡ d
-        → cond d (Some number) (get (λ m n. m == n) others (key_of x y)) ≡ cond c (Some number) (get (λ m n. m == n) others (key_of x y))
+        → cond d (Some number) (get nat_cmp others (key_of x y)) ≡ cond c (Some number) (get nat_cmp others (key_of x y))
     key_read x y ly true true e f = refl
     key_read x y ly false false e f = refl
     key_read x y ly true false e f =
@@ -73,8 +74,8 @@ module _ (rows : ℕ) (es : List (Option ℕ)) (others : Keyed) (a b number : �
         row = slice_index_or es (x * rows + y) None
 
         by : (c : Bool) → (nat_lt x rows && nat_lt y rows) ≡ c → (d : Bool) → nat_lt y (2 ^ 32) ≡ d
-            → cond c row (cond d (get (λ m n. m == n) new (key_of x y)) None)
-            ≡ cond (a == x && b == y) (Some number) (cond c row (cond d (get (λ m n. m == n) others (key_of x y)) None))
+            → cond c row (cond d (get nat_cmp new (key_of x y)) None)
+            ≡ cond (a == x && b == y) (Some number) (cond c row (cond d (get nat_cmp others (key_of x y)) None))
         by true e d f =
             let low = and_parts (nat_lt x rows) (nat_lt y rows) e in
             let apart : (a == x && b == y) ≡ true → ⊥ =

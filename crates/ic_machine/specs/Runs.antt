@@ -1,13 +1,14 @@
 -- What a machine begins with, and what a run leads to.
-use Rattle.std.specs.Prelude.{◌≡◌, ℕ, ◌+◌, ◌<◌, ◌≤◌, ◌==◌, List, [], ◌∷◌, ◌++◌, Some, length, map, max, count_by, fold, slice_get, slice_index_or}
+use Rattle.std.specs.Prelude.{◌≡◌, ℕ, ◌+◌, ◌<◌, ◌≤◌, ◌==◌, List, [], ◌∷◌, ◌++◌, Some, length, map, max, take, count_by, fold, slice_get, slice_index_or}
 use Rattle.std.specs.List.{AllByRecursion, range_with_len}
 use Rattle.ic_arena.specs.declared.word.Word.{Word}
 use Rattle.ic_arena.specs.declared.word.TheConstants.{NAME, GIVEN}
 use Rattle.ic_arena.specs.Piece.{Piece}
 use Rattle.ic_arena.specs.Tables.{register}
 use Rattle.ic_machine.specs.declared.equation.Equation.{Equation}
+use Rattle.ic_machine.specs.declared.plan.Link.{Link}
 use Rattle.ic_machine.specs.Plan.{Planned, Plans, IsPlan, allowance, constants, operands_of, pieces_made}
-use Rattle.ic_machine.specs.Net.{Net, in_use, pieces, places_of, IsPairPiece, IsStuck}
+use Rattle.ic_machine.specs.Net.{Net, in_use, pieces, places_of, IsPair, IsPairPiece, IsStuck}
 use Rattle.ic_machine.specs.Steps.{AreFresh, Fires, Steps}
 
 -- the words of so many given names
@@ -40,13 +41,25 @@ pub record Begins (arities : List ℕ) (given : ℕ) (p : Planned) (operands : L
   pub interface_is : interface ≡ map (register (first_registers arities given names made)) operands
   pub pieces : ps ≡ pieces_made p (first_registers arities given names made) names made
 
--- A net is what a machine begins with, linked by steps that fire nothing. It has as many places as that uses.
+-- the equation that a link makes of what is in registers
+abbrev pub equation_at : List Word → Link → Equation
+equation_at rs l = record { left = register rs l.left; right = register rs l.right }
+
+-- Links at the head whose registers hold no names put their equations after the others, as they are, before all that further
+-- links put there.
+abbrev pub HaveHead : List Link → List Word → List Equation → List Equation → Type 0
+HaveHead links rs old new = (n : ℕ) → AllByRecursion (λ l. IsPair (equation_at rs l)) (take n links)
+    → (more : List Equation) × (new ≡ old ++ (map (equation_at rs) (take n links) ++ more))
+
+-- A net is what a machine begins with, linked by steps that fire nothing. Links at the head whose registers hold no names are the
+-- first pending pairs. It has as many places as that uses.
 pub record Starts (p : Plans) (given : ℕ) (plan : Planned) (operands : List ℕ) (n : Net) : Type 0 where
   pub first : List Piece
   pub begins : Begins p.arities given plan operands n.interface first
   pub steps : Steps p [] first (pieces n)
   pub places : (kind : ℕ) → places_of kind n ≡ in_use kind first
   pub symbols : length n.agents ≡ length p.arities
+  pub head : HaveHead plan.links (first_registers p.arities given begins.names begins.made) [] n.pending
 
 -- What was counted of each plan, and what is counted of it after these have fired.
 pub record Counted (fired old new : List ℕ) : Type 0 where

@@ -9,6 +9,7 @@ pub mod PairLaws
 pub mod Balance
 pub mod Active
 pub mod RunsOn
+pub mod GenerationsOn
 pub mod Upto
 pub mod InRooms
 pub mod Spelled

@@ -7,6 +7,7 @@
 mod borders;
 mod equation;
 mod firing;
+mod generation;
 pub mod laws;
 mod linking;
 mod machine;
@@ -21,6 +22,7 @@ mod unpacking;
 
 pub use borders::Borders;
 pub use equation::Equation;
+pub use generation::Generation;
 pub use machine::{Ended, Machine, MachineFault};
 pub use moving::Parcel;
 pub use places::{Parts, Places};

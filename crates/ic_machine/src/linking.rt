@@ -5,7 +5,8 @@ ghost use Rattle.std.specs.List.{AllByRecursion};
 ghost use Rattle.ic_arena.specs.Piece.{Piece, room};
 ghost use Rattle.ic_arena.specs.Tables.{names_pieces};
 ghost use Rattle.ic_machine.specs.Plan.{Plans, linked};
-ghost use Rattle.ic_machine.specs.Net.{equated_of};
+ghost use Rattle.ic_machine.specs.Net.{equated_of, IsPair};
+ghost use Rattle.ic_machine.specs.Runs.{HaveHead};
 ghost use Rattle.ic_machine.specs.Steps.{Steps};
 ghost use Rattle.ic_machine.specs.inner.Linking.{AreNamed, AreLinks, IsEnd, IsTaken, Pushed};
 
@@ -27,6 +28,11 @@ pub(crate) fn link_each(
         ++ (names_pieces 0 names.old.entries ++ (map equated_of pending.old.items ++ rest)))
         (names_pieces 0 names.new.entries ++ (map equated_of pending.new.items ++ rest)) }
     ensures pushed { Pushed pending.old.items pending.new.items }
+    ensures bare { (p : Plans) (rest : List Piece) (more : List Equation)
+        → pending.new.items ≡ pending.old.items ++ more → Steps p []
+        (map (linked registers.now) links.now ++ (names_pieces 0 names.old.entries ++ rest))
+        (names_pieces 0 names.new.entries ++ (map equated_of more ++ rest)) }
+    ensures head { HaveHead links.now registers.now pending.old.items pending.new.items }
     ensures len { vec_len pending.new ≤ vec_len pending.old + length links.now }
     ensures capacity { vec_capacity pending.new ≡ vec_capacity pending.old }
     ensures names { length names.new.entries ≡ length names.old.entries }
@@ -51,6 +57,11 @@ pub(crate) fn link(names: &mut Names, pending: &mut Vec<Equation>, equation: Equ
         ∷ (names_pieces 0 names.old.entries ++ (map equated_of pending.old.items ++ rest)))
         (names_pieces 0 names.new.entries ++ (map equated_of pending.new.items ++ rest)) }
     ensures pushed { Pushed pending.old.items pending.new.items }
+    ensures bare { (p : Plans) (rest : List Piece) (more : List Equation)
+        → pending.new.items ≡ pending.old.items ++ more → Steps p []
+        (equated_of equation ∷ (names_pieces 0 names.old.entries ++ rest))
+        (names_pieces 0 names.new.entries ++ (map equated_of more ++ rest)) }
+    ensures pair { IsPair equation → pending.new.items ≡ pending.old.items ++ equation ∷ [] }
     ensures len { vec_len pending.new ≤ vec_len pending.old + 1 }
     ensures capacity { vec_capacity pending.new ≡ vec_capacity pending.old }
     ensures names { length names.new.entries ≡ length names.old.entries }
@@ -101,6 +112,11 @@ fn settle(names: &mut Names, pending: &mut Vec<Equation>, equation: Equation)
         ∷ (names_pieces 0 names.old.entries ++ (map equated_of pending.old.items ++ rest)))
         (names_pieces 0 names.new.entries ++ (map equated_of pending.new.items ++ rest)) }
     ensures pushed { Pushed pending.old.items pending.new.items }
+    ensures bare { (p : Plans) (rest : List Piece) (more : List Equation)
+        → pending.new.items ≡ pending.old.items ++ more → Steps p []
+        (equated_of equation ∷ (names_pieces 0 names.old.entries ++ rest))
+        (names_pieces 0 names.new.entries ++ (map equated_of more ++ rest)) }
+    ensures pair { IsPair equation → pending.new.items ≡ pending.old.items ++ equation ∷ [] }
     ensures len { vec_len pending.new ≤ vec_len pending.old + 1 }
     ensures capacity { vec_capacity pending.new ≡ vec_capacity pending.old }
     ensures names { length names.new.entries ≡ length names.old.entries }

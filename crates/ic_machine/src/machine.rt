@@ -1,16 +1,20 @@
 //! The machine.
 
-ghost use Rattle.std.specs.Prelude.{◌≡◌, ◌≢◌, ℕ, ◌+◌, ◌^◌, ◌<◌, ◌≤◌, List, [], ◌∷◌, ◌++◌, true, false, Ok, Err, Contains, length, map, slice_index_or, sum, sum_by, vec_capacity, IfOk, OnErr, IfSome, IfNone, MatchOption};
-ghost use Rattle.std.specs.List.{AllByRecursion};
+ghost use Rattle.std.specs.Prelude.{◌≡◌, ◌≢◌, ℕ, ◌+◌, ◌-◌, ◌^◌, ◌<◌, ◌≤◌, List, [], ◌∷◌, ◌++◌, true, false, Ok, Err, Contains, length, map, slice_get, slice_index_or, sum, sum_by, vec_capacity, IfOk, OnErr, OnOk, Some, IfSome, IfNone, MatchOption};
+ghost use Rattle.std.specs.List.{swap, AllByRecursion};
 ghost use Rattle.ic_arena.specs.declared.word.Word.{Word as AnyWord};
 ghost use Rattle.ic_arena.specs.declared.word.TheConstants.{GIVEN, NAME};
 ghost use Rattle.ic_arena.specs.Word.{name_word};
-ghost use Rattle.ic_arena.specs.Piece.{agent_of, room, waits};
+ghost use Rattle.ic_arena.specs.Piece.{Piece as AnyPiece, agent_of, room, waits};
 ghost use Rattle.ic_arena.specs.Tables.{register};
 ghost use Rattle.ic_machine.specs.Plan.{Plans, planned};
 ghost use Rattle.ic_machine.specs.Separate.{IsSeparate};
 ghost use Rattle.ic_machine.specs.Runs.{IsStart, Starts, Counted, Ran};
-ghost use Rattle.ic_machine.specs.Net.{pieces, equations_left, in_use, ArePutThrough, HasNext, IsAtPlace, IsFull, IsPair};
+ghost use Rattle.ic_machine.specs.Net.{pieces, equations_left, in_use, ArePutThrough, HasNext, IsActive, IsStuck, IsAtPlace, IsFull, IsPair};
+ghost use Rattle.ic_machine.specs.Generations.{beside, TakesPair};
+ghost use Rattle.ic_machine.specs.declared.equation.Equation.{Equation as AnyEquation};
+ghost use Rattle.ic_machine.specs.Steps.{Steps};
+ghost use Rattle.ic_machine.specs.inner.Machine.{TakesLast};
 ghost use Rattle.ic_machine.specs.inner.Pairs.{HasNumber, IsLast, Passed};
 
 use crate::equation::Equation;
@@ -194,6 +198,76 @@ impl Machine {
         Ok(true)
     }
 
+    /// Takes the pair at a place of those that are pending: it fires if it has a plan, and is set aside if it has none. The last
+    /// one stands in its place then. Where it is broken off, the net is that before.
+    pub fn take_pair(&mut self, program: &Program, place: usize) -> Result<bool, MachineFault>
+        requires arities { self.old.arities ≡ program.now.arities }
+        requires few { self.old.interactions + 1 < 2 ^ 64 }
+        requires there { place < length self.old.pending }
+        ensures ran { Ran program.now self.old self.new }
+        ensures taken { OnOk result (TakesPair program.now place self.old self.new) }
+        ensures fired { result ≡ Ok true
+            → self.new.interactions ≡ self.old.interactions + 1 }
+        ensures aside { result ≡ Ok false → self.new.interactions ≡ self.old.interactions }
+        ensures err { OnErr result (self.new.interactions ≡ self.old.interactions) }
+        ensures same { OnErr result (self.new.pending ≡ self.old.pending) }
+        ensures held { OnErr result ((later : List AnyEquation)
+            → beside later self.new ≡ beside later self.old) }
+        ensures separate { IsSeparate self.new.arities self.new.interface (pieces self.new) }
+        ensures limit { result ≡ Err MachineFault.Limit → (pair : Equation)
+            × (slice_get self.old.pending place ≡ Some pair)
+            × ((active : IsActive program.now pair) × IsFull active.plan self.new) }
+    {
+        self.exchange(place);
+        let taken = self.take_last(program);
+        if taken.is_err() {
+            self.exchange(place);
+        }
+        taken
+    }
+
+    /// Lets a pending pair and the last one change places.
+    fn exchange(&mut self, place: usize)
+        requires { place < length self.old.pending }
+        ensures pending { self.new.pending
+            ≡ swap self.old.pending place (length self.old.pending - 1) }
+        ensures same { self.new ≡ record self.old { pending = self.new.pending } }
+        ensures ran { (p : Plans) → Ran p self.old self.new }
+        ensures separate { IsSeparate self.new.arities self.new.interface (pieces self.new) }
+    {
+        let last = self.tables.pending.len() - 1;
+        self.tables.pending.swap(place, last);
+    }
+
+    /// Takes the last pending pair: it fires if it has a plan, and is set aside if it has none.
+    fn take_last(&mut self, program: &Program) -> Result<bool, MachineFault>
+        requires arities { self.old.arities ≡ program.now.arities }
+        requires few { self.old.interactions + 1 < 2 ^ 64 }
+        requires some { 1 ≤ length self.old.pending }
+        ensures ran { Ran program.now self.old self.new }
+        ensures taken { OnOk result (TakesLast program.now self.old self.new) }
+        ensures fired { result ≡ Ok true
+            → self.new.interactions ≡ self.old.interactions + 1 }
+        ensures aside { result ≡ Ok false → self.new.interactions ≡ self.old.interactions }
+        ensures err { OnErr result (self.new.interactions ≡ self.old.interactions) }
+        ensures same { OnErr result (self.new.pending ≡ self.old.pending) }
+        ensures held { OnErr result ((later : List AnyEquation)
+            → beside later self.new ≡ beside later self.old) }
+        ensures separate { IsSeparate self.new.arities self.new.interface (pieces self.new) }
+        ensures limit { result ≡ Err MachineFault.Limit
+            → (next : HasNext program.now self.new.pending) × IsFull next.active.plan self.new }
+    {
+        let pair = self.tables.pending[self.tables.pending.len() - 1];
+        let Some(number) = program.number_for(pair) else {
+            set_aside(pair, &mut self.tables.pending, &mut self.aside)?;
+            return Ok(false);
+        };
+        self.tables.fire(pair, program.plan_at(number))?;
+        self.interactions += 1;
+        count(&mut self.counts, number);
+        Ok(true)
+    }
+
     /// Whether no pending pair has a plan. Those that come after the last one that has are set aside.
     fn is_quiet(&mut self, program: &Program) -> Result<bool, MachineFault>
         requires arities { self.old.arities ≡ program.now.arities }
@@ -216,6 +290,8 @@ impl Machine {
     pub fn sweep(&mut self)
         ensures ran { (p : Plans) → Ran p self.old self.new }
         ensures same { self.new ≡ record self.old { places = self.new.places } }
+        ensures steps { (p : Plans) (rest : List AnyPiece)
+            → Steps p [] (self.old.places ++ rest) (self.new.places ++ rest) }
         ensures through { ArePutThrough self.new.places }
         ensures fewer { length self.new.places ≤ length self.old.places }
         ensures places { AllByRecursion IsAtPlace self.new.places }
@@ -382,6 +458,29 @@ fn find_plan(
         pending.pop();
     }
     Ok(None)
+}
+
+/// Sets the last pending pair aside, which has no plan.
+fn set_aside(
+    pair: Equation,
+    pending: &mut Vec<Equation>,
+    aside: &mut Vec<Equation>,
+) -> Result<(), MachineFault>
+    requires { IsLast pair pending.old.items }
+    ensures memory { vec_capacity pending.new ≡ vec_capacity pending.old }
+    ensures passed { OnOk result ((p : Plans) → IsStuck p pair → Passed p
+        pending.old.items aside.old.items pending.new.items aside.new.items) }
+    ensures left { OnOk result (pending.old.items ≡ pending.new.items ++ pair ∷ []) }
+    ensures aside { OnOk result (aside.new.items ≡ aside.old.items ++ pair ∷ []) }
+    ensures same { OnErr result (pending.new ≡ pending.old) }
+    ensures none { OnErr result (aside.new.items ≡ aside.old.items) }
+    ensures limit { result ≢ Err MachineFault.Limit }
+{
+    if aside.push(pair).is_err() {
+        return Err(MachineFault::Memory);
+    }
+    pending.pop();
+    Ok(())
 }
 
 /// Counts a plan that has fired, if it is one of those that are counted.

@@ -2,14 +2,15 @@
 
 ghost use Rattle.std.specs.Prelude.{◌≡◌, ℕ, ◌*◌, ◌^◌, ◌<◌, ◌&&◌, ◌==◌, [], ◌∷◌, ◌++◌, None, Some, if◌then◌else◌, length, IfOk, OnOk, OnErr};
 ghost use Rattle.ic_machine.specs.Plan.{place_of};
-ghost use Rattle.std.specs.HashMap.{get};
+ghost use Rattle.std.specs.Ordering.{nat_cmp};
+ghost use Rattle.std.specs.BTreeMap.{get};
 ghost use Rattle.ic_machine.specs.inner.PairIndex.{key_of, number_in};
 
 use std::alloc::{AllocError, Global};
-use std::collections::HashMap;
+use std::collections::BTreeMap;
 use std::marker::Model;
 
-/// The pairs of so many symbols, the first ones, have an entry each. Other pairs are found by their hash.
+/// The pairs of so many symbols, the first ones, have an entry each. Other pairs are found in a tree, so that none can be chosen that are slow to find.
 const MAX_ROWS: usize = 2_048;
 
 /// Pairs of symbols, each with its place from 0 as its number.
@@ -18,7 +19,7 @@ pub(crate) struct PairIndex {
     pairs: Vec<(u32, u32)>,
     rows: usize,
     entries: Vec<Option<u32>>,
-    others: HashMap<u64, u32>,
+    others: BTreeMap<u64, u32>,
 }
 
 impl Model for PairIndex {
@@ -46,7 +47,7 @@ impl PairIndex {
             pairs: Vec::new(alloc),
             rows,
             entries,
-            others: HashMap::new(alloc),
+            others: BTreeMap::new(alloc),
         })
     }
 
@@ -81,8 +82,8 @@ impl PairIndex {
 /// The number of a pair that has no entry. It stands apart, so that a look-up of an entry is a few instructions.
 #[cold]
 #[inline(never)]
-fn get_other(others: &HashMap<u64, u32>, a: u32, b: u32) -> Option<u32>
-    ensures { result ≡ get (λ m n. m == n) others.now (key_of a b) }
+fn get_other(others: &BTreeMap<u64, u32>, a: u32, b: u32) -> Option<u32>
+    ensures { result ≡ get nat_cmp others.now (key_of a b) }
 {
     others.get(&key_of(a, b)).copied()
 }
@@ -91,7 +92,7 @@ fn get_other(others: &HashMap<u64, u32>, a: u32, b: u32) -> Option<u32>
 fn put(
     rows: usize,
     entries: &mut Vec<Option<u32>>,
-    others: &mut HashMap<u64, u32>,
+    others: &mut BTreeMap<u64, u32>,
     a: u32,
     b: u32,
     number: u32,

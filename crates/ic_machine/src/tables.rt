@@ -5,6 +5,7 @@ ghost use Rattle.std.specs.List.{AllByRecursion};
 ghost use Rattle.ic_arena.specs.declared.word.TheConstants.{GIVEN};
 ghost use Rattle.ic_machine.specs.Net.{equated_of, IsPair};
 ghost use Rattle.ic_machine.specs.Plan.{Plans, planned, made_of, constants};
+ghost use Rattle.ic_machine.specs.Runs.{HaveHead};
 ghost use Rattle.ic_machine.specs.Separate.{IsSeparate};
 ghost use Rattle.ic_machine.specs.inner.Firing.{heaps_pieces, arities_of, AreSame, table};
 ghost use Rattle.ic_machine.specs.inner.Linking.{Pushed};
@@ -167,6 +168,8 @@ impl Tables {
         requires memory { HasMemory (planned plan.now) 0 self.old }
         ensures made { IsMade (planned plan.now) self.old self.new }
         ensures pushed { Pushed self.old.pending.items self.new.pending.items }
+        ensures head { HaveHead plan.now.links.items self.new.registers.items
+            self.old.pending.items self.new.pending.items }
         ensures arities { arities_of self.new.heaps.items ≡ arities_of self.old.heaps.items }
         ensures few { length self.new.names.entries < 2 ^ 32 }
         ensures room { (n : ℕ) → HasRoomFor (n + size_of (planned plan.now)) self.old
@@ -199,9 +202,11 @@ impl Tables {
             → p.arities ≡ arities_of self.old.heaps.items
             → IsNumbered p i left right (planned plan.now)
             → AllByRecursion IsPair self.old.pending.items → AllByRecursion IsPair rest
-            → FiresBy p i self.old self.new rest) }
+            → FiresBy p pair i self.old self.new rest) }
         ensures pairs { AllByRecursion IsPair self.old.pending.items
             → AllByRecursion IsPair self.new.pending.items }
+        ensures pushed { OnOk result ((front : List Equation)
+            → self.old.pending.items ≡ front ++ pair ∷ [] → Pushed front self.new.pending.items) }
         ensures pending { OnErr result (self.new.pending.items ≡ self.old.pending.items) }
         ensures same { OnErr result ((rest : List Equation)
             → held self.new (map equated_of rest) ≡ held self.old (map equated_of rest)) }

@@ -207,7 +207,7 @@ first_sound arities given base vs xs few low once = record {
   few = few;
 }
 
-given_length : (count : ℕ) → length (given_words count) ≡ count
+pub given_length : (count : ℕ) → length (given_words count) ≡ count
 given_length count = length-map-range_with_len (λ i. record { tag = GIVEN; index = i }) 0 count
 
 given_word : (count i : ℕ) → i < count → register (given_words count) i ≡ record { tag = GIVEN; index = i }
@@ -230,10 +230,10 @@ given_constant arities few =
 given_term : (n : Numbers) (i : ℕ) → AreNumbers n → i < length n.given → term n (record { tag = GIVEN; index = i }) ≡ name (slice_index_or n.given i 0)
 given_term n i sound low = rw (given_constant n.arities sound.few, given_at n.given i low) refl
 
-named_low : (count : ℕ) (ns : List ℕ) (k : ℕ) → k < count → named_terms count ns k ≡ agent k no_trees
+pub named_low : (count : ℕ) (ns : List ℕ) (k : ℕ) → k < count → named_terms count ns k ≡ agent k no_trees
 named_low count ns k low = rw (lt-ltb k count low) refl
 
-named_high : (count : ℕ) (ns : List ℕ) (i : ℕ) → named_terms count ns (count + i) ≡ name (slice_index_or ns i 0)
+pub named_high : (count : ℕ) (ns : List ℕ) (i : ℕ) → named_terms count ns (count + i) ≡ name (slice_index_or ns i 0)
 named_high count ns i =
     let place : (count + i) - count ≡ i = omega arith in
     rw (le-ltb (count + i) count (omega arith), place) refl
@@ -286,7 +286,47 @@ begun_free n vs ms many sound fresh j low kind =
     let parts = sum_by-append (λ v. cond (word_eq w v) 1 0) (given_words many) (vs ++ ms) in
     record { place = kind; absent = refl; beside = refl; once = omega arith }
 
-begun_one : NetLaws → (arities given : List ℕ) (c : Configuration) (p : Planned) (operands : List ℕ) (interface : List Word) (ps : List Piece)
+fresh_front : (vs ms : List Word) → AreFresh (vs ++ ms) [] → AreFresh vs []
+fresh_front [] ms fresh = tt
+fresh_front (v ∷ vs) ms fresh =
+    let parts = sum_by-append (λ u. cond (word_eq v u) 1 0) vs ms in
+    let none = fresh.1 in
+    (refl, (let h : sum_by (λ u. cond (word_eq v u) 1 0) vs ≡ 0 = omega arith in h), fresh_front vs ms fresh.2)
+
+pub tags_length : (ms : List Made) (vs : List Word) → map (λ v. v.tag) vs ≡ map (λ m. m.symbol + 1) ms → length vs ≡ length ms
+tags_length [] [] e = refl
+tags_length [] (v ∷ vs) e = absurd (list_apart e)
+  where
+    list_apart : {x : ℕ} {xs : List ℕ} → x ∷ xs ≡ [] → ⊥
+    list_apart e = cc
+tags_length (m ∷ ms) [] e = absurd (list_apart e)
+  where
+    list_apart : {x : ℕ} {xs : List ℕ} → [] ≡ x ∷ xs → ⊥
+    list_apart e = cc
+tags_length (m ∷ ms) (v ∷ vs) e =
+    let rest : map (λ (u : Word). u.tag) vs ≡ map (λ (k : Made). k.symbol + 1) ms = cc in
+    ap suc (tags_length ms vs rest)
+
+-- registers below those of agents hold what stands for the configuration
+pub begun_alike : (arities given : List ℕ) (c : Configuration) (p : Planned) (operands : List ℕ) (interface : List Word) (ps : List Piece)
+    → (s : StandsForNet arities given c p operands) → (b : Begins arities (length given) p operands interface ps)
+    → AreNumbers (record { arities = arities; given = given; of_place = place_number c.next b.names s.names })
+    → (j : ℕ) → j < first_made arities (length given) p
+    → held_in (record { arities = arities; given = given; of_place = place_number c.next b.names s.names })
+    (registers_of (record { arities = arities; given = given; of_place = place_number c.next b.names s.names }) (given_words (length given) ++ (b.names ++ b.made))) j
+    ≡ named_terms (length arities) (given ++ s.names) j
+begun_alike arities given c p operands interface ps s b sound j low =
+    let n : Numbers = record { arities = arities; given = given; of_place = place_number c.next b.names s.names } in
+    let same_count : length b.names ≡ length s.names = b.names_count ∙ sym s.count in
+    let names_fresh = fresh_front b.names b.made b.fresh in
+    let kinds : (i : ℕ) → i < length b.names → is_constant_tag arities (register b.names i).tag ≡ false =
+    (λ i less. name_tag arities (register b.names i).tag (all_at (λ v. v.tag ≡ NAME) b.names i less b.name_tags)) in
+    let numbers : (i : ℕ) → i < length b.names → n.of_place (register b.names i) ≡ slice_index_or s.names i 0 =
+    (λ i less. first_number c.next b.names s.names [] i same_count names_fresh less) in
+    let names_count = b.names_count in
+    held_named n b.names b.made s.names (length given) sound same_count kinds numbers refl j (omega arith)
+
+pub begun_one : NetLaws → (arities given : List ℕ) (c : Configuration) (p : Planned) (operands : List ℕ) (interface : List Word) (ps : List Piece)
     → length arities < GIVEN → HasNames c → IsPlan arities (length given) p → (s : StandsForNet arities given c p operands) → (b : Begins arities (length given) p operands interface ps)
     → AreNumbers (record { arities = arities; given = given; of_place = place_number c.next b.names s.names })
     → OneNet c (net_of (record { arities = arities; given = given; of_place = place_number c.next b.names s.names }) interface ps)
@@ -299,14 +339,8 @@ begun_one laws arities given c p operands interface ps few named plan s b sound 
     let terms : ℕ → Tree = named_terms (length arities) (given ++ s.names) in
     let k : ℕ = first_made arities g p in
     let next : ℕ = c.next + one_above (map n.of_place b.made) in
-    let same_count : length b.names ≡ length s.names = b.names_count ∙ sym s.count in
-    let names_fresh = fresh_front b.names b.made b.fresh in
-    let kinds : (j : ℕ) → j < length b.names → is_constant_tag arities (register b.names j).tag ≡ false =
-    (λ j low. name_tag arities (register b.names j).tag (all_at (λ v. v.tag ≡ NAME) b.names j low b.name_tags)) in
-    let numbers : (j : ℕ) → j < length b.names → n.of_place (register b.names j) ≡ slice_index_or s.names j 0 =
-    (λ j low. first_number c.next b.names s.names [] j same_count names_fresh low) in
     let names_count = b.names_count in
-    let alike : (j : ℕ) → j < k → held j ≡ terms j = (λ j low. held_named n b.names b.made s.names g sound same_count kinds numbers refl j (omega arith)) in
+    let alike : (j : ℕ) → j < k → held j ≡ terms j = begun_alike arities given c p operands interface ps s b sound in
     let made_same : (j : ℕ) → j < k + length p.made → held_made k p.made held j ≡ held_made k p.made terms j =
     made_alike arities k p.made held terms alike plan.made in
     let interface_same = held_alike (k + length p.made) (held_made k p.made held) (held_made k p.made terms) made_same operands s.within in
@@ -355,27 +389,6 @@ begun_one laws arities given c p operands interface ps few named plan s b sound 
     let net = to_configured laws c last.interface last.equations next to_last in
     transport (λ (w : List Word). OneNet c (net_of n w ps)) (sym b.interface_is)
     (transport (λ (l : List Piece). OneNet c (net_of n (map (register rs) operands) l)) (sym b.pieces) net)
-  where
-    fresh_front : (vs ms : List Word) → AreFresh (vs ++ ms) [] → AreFresh vs []
-    fresh_front [] ms fresh = tt
-    fresh_front (v ∷ vs) ms fresh =
-        let parts = sum_by-append (λ u. cond (word_eq v u) 1 0) vs ms in
-        let none = fresh.1 in
-        (refl, (let h : sum_by (λ u. cond (word_eq v u) 1 0) vs ≡ 0 = omega arith in h), fresh_front vs ms fresh.2)
-
-    tags_length : (ms : List Made) (vs : List Word) → map (λ v. v.tag) vs ≡ map (λ m. m.symbol + 1) ms → length vs ≡ length ms
-    tags_length [] [] e = refl
-    tags_length [] (v ∷ vs) e = absurd (list_apart e)
-      where
-        list_apart : {x : ℕ} {xs : List ℕ} → x ∷ xs ≡ [] → ⊥
-        list_apart e = cc
-    tags_length (m ∷ ms) [] e = absurd (list_apart e)
-      where
-        list_apart : {x : ℕ} {xs : List ℕ} → [] ≡ x ∷ xs → ⊥
-        list_apart e = cc
-    tags_length (m ∷ ms) (v ∷ vs) e =
-        let rest : map (λ (u : Word). u.tag) vs ≡ map (λ (k : Made). k.symbol + 1) ms = cc in
-        ap suc (tags_length ms vs rest)
 
 pub begun_net : NetLaws → (arities given : List ℕ) (c : Configuration) (p : Planned) (operands : List ℕ) (interface : List Word) (ps : List Piece)
     → length arities < GIVEN → HasNames c → IsPlan arities (length given) p → StandsForNet arities given c p operands → Begins arities (length given) p operands interface ps

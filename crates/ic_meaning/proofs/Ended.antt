@@ -97,6 +97,7 @@ pub record Stuck (rs : List Rule) (total : ℕ → ℕ) (bs : List Binding) (e :
 -- A circle: all occurrences of the name are in the equation.
 pub record Circle (total : ℕ → ℕ) (b : Binding) : Type 0 where
   pub own : total b.name ≡ 1 + occurrences b.name (names b.term)
+  pub some : 1 ≤ occurrences b.name (names b.term)
   pub kind : ((s : ℕ) × (us : Trees) × (b.term ≡ agent s us)) ⊎ (b.term ≡ name b.name)
 
 abbrev pub HeadsApart : List Binding → Type 0
@@ -126,13 +127,13 @@ IsEnded rs total e = (active_pair rs e ≡ None) × ((y : ℕ) → (e.left ≡ n
 all_at_middle : {X : Type 0} (P : X → Type 0) (before : List X) (x : X) (after : List X) → AllByRecursion P (before ++ x ∷ after) → P x
 all_at_middle P before x after all = (all_back P before (x ∷ after) all).0
 
-name_agent : {x s : ℕ} {us : Trees} → name x ≡ agent s us → ⊥
+pub name_agent : {x s : ℕ} {us : Trees} → name x ≡ agent s us → ⊥
 name_agent e = cc
 
 same_name : {x y : ℕ} → name x ≡ name y → x ≡ y
 same_name e = cc
 
-circle_inert : (rs : List Rule) (total : ℕ → ℕ) (zs : List Binding) → AllByRecursion (Circle total) zs
+pub circle_inert : (rs : List Rule) (total : ℕ → ℕ) (zs : List Binding) → AllByRecursion (Circle total) zs
     → AllByRecursion (IsEnded rs total) (map piece_of zs)
 circle_inert rs total [] all = tt
 circle_inert rs total (z ∷ zs) all = ((refl, λ y. at y all.0.kind), circle_inert rs total zs all.1)
@@ -149,7 +150,7 @@ circle_inert rs total (z ∷ zs) all = ((refl, λ y. at y all.0.kind), circle_in
     at y (inl (s, us, is)) (inr there) = absurd (name_agent (sym there ∙ is))
     at y (inr is) (inr there) = transport (λ (x : ℕ). total x ≡ occurrences x (z.name ∷ names z.term)) (same_name (sym is ∙ there)) own
 
-side_free : (total : ℕ → ℕ) (t : Tree) (o : Option ℕ) (y : ℕ) → Side total [] t o → t ≡ name y → total y ≡ 1
+pub side_free : (total : ℕ → ℕ) (t : Tree) (o : Option ℕ) (y : ℕ) → Side total [] t o → t ≡ name y → total y ≡ 1
 side_free total t o y (of_agent a us) is = absurd (name_agent (sym is))
 side_free total t o y (of_name a x bound) is = absurd bound
 side_free total t o y (of_free x one) is = transport (λ (z : ℕ). total z ≡ 1) (same_name is) one
@@ -163,7 +164,7 @@ stuck_inert rs total e s = at e.left e.right s.left_symbol s.right_symbol s.left
     at t u o q (of_name a x bound) other none = absurd bound
     at t u o q _ _ none = refl
 
-stuck_ends : (rs : List Rule) (total : ℕ → ℕ) (c : Configuration) (ss : List Pair) → AllByRecursion (Stuck rs total []) ss
+pub stuck_ends : (rs : List Rule) (total : ℕ → ℕ) (c : Configuration) (ss : List Pair) → AllByRecursion (Stuck rs total []) ss
     → ((n : ℕ) → 1 ≤ occurrences n (configuration_names c) → occurrences n (configuration_names c) ≡ total n)
     → ((n : ℕ) → occurrences n (flat_map pair_names ss) ≤ occurrences n (configuration_names c))
     → AllByRecursion (IsEnded rs total) ss
@@ -193,7 +194,7 @@ stuck_ends rs total c (e ∷ ss) all counts inside =
 some_none : {a : Active} {o : Option Active} → o ≡ Some a → o ≡ None → ⊥
 some_none e f = let both = sym e ∙ f in cc
 
-quiet_end : (rs : List Rule) (total : ℕ → ℕ) (ts : List Tree) (zs : List Binding) (ss : List Pair) (next : ℕ) → Bound rs total (in_bindings ts [] zs ss next) [] zs ss
+pub quiet_end : (rs : List Rule) (total : ℕ → ℕ) (ts : List Tree) (zs : List Binding) (ss : List Pair) (next : ℕ) → Bound rs total (in_bindings ts [] zs ss next) [] zs ss
     → IsQuiet rs (in_bindings ts [] zs ss next)
 quiet_end rs total ts zs ss next is d step = at step
   where
@@ -313,7 +314,7 @@ put_circles : (total : ℕ → ℕ) (x : ℕ) (t : Tree) (zs : List Binding) →
     → AllByRecursion (Circle total) (put_terms x t zs)
 put_circles total x t [] all differ few = tt
 put_circles total x t (z ∷ zs) all differ few = (
-  record { own = own_put; kind = kind_put all.0.kind },
+  record { own = own_put; some = some_put; kind = kind_put all.0.kind },
   put_circles total x t zs all.1 differ.1 (λ n some.
       let parts = occurrences-append n (z.name ∷ names z.term) (flat_map pair_names (map piece_of zs)) in
       let less = few n (omega arith) in omega arith),
@@ -337,6 +338,9 @@ put_circles total x t (z ∷ zs) all differ few = (
         let counts = put_counts z.name x t z.term other in
         let product : occurrences x (names z.term) * occurrences z.name (names t) ≡ 0 = rw none (omega arith) in
         omega arith
+
+    some_put : 1 ≤ occurrences z.name (names (subst x t z.term))
+    some_put = let before = all.0.own in let after = own_put in let more = all.0.some in omega (arith, before, after, more)
 
     kind_put : ((s : ℕ) × (us : Trees) × (z.term ≡ agent s us)) ⊎ (z.term ≡ name z.name)
         → ((s : ℕ) × (us : Trees) × (subst x t z.term ≡ agent s us)) ⊎ (subst x t z.term ≡ name z.name)
@@ -526,7 +530,7 @@ drop_bound laws rs total ts b bs zs ss next named is none =
         counts = λ n some. let moved = moved_counts n in let before = is.counts n (omega arith) in omega arith;
         heads = is.heads.1;
         apart = is.apart.1;
-        circles = (record { own = omega arith; kind = circle_kind x b.term (omega arith) }, is.circles);
+        circles = (record { own = omega arith; some = omega arith; kind = circle_kind x b.term (omega arith) }, is.circles);
         stuck = drop_stuck rs total b bs ss (omega arith) is.stuck;
       },
     )
@@ -541,35 +545,59 @@ put_length : (x : ℕ) (t : Tree) (bs : List Binding) → length (put_terms x t 
 put_length x t [] = refl
 put_length x t (b ∷ bs) = ap suc (put_length x t bs)
 
--- Terms are put for names until none is left; what then stands is quiet.
-pub to_quiet : NetLaws → (rs : List Rule) (total : ℕ → ℕ) (k : ℕ) (ts : List Tree) (bs zs : List Binding) (ss : List Pair) (next : ℕ) → length bs ≡ k
-    → HasNames (in_bindings ts bs zs ss next) → Bound rs total (in_bindings ts bs zs ss next) bs zs ss
-    → (e : Configuration) × OneNet (in_bindings ts bs zs ss next) e × IsQuiet rs e
-to_quiet laws rs total k ts [] zs ss next len named is = (in_bindings ts [] zs ss next, laws.itself (in_bindings ts [] zs ss next) named, quiet_end rs total ts zs ss next is)
-to_quiet laws rs total zero ts (b ∷ bs) zs ss next len named is = absurd (omega arith)
-to_quiet laws rs total (suc k) ts (b ∷ bs) zs ss next len named is =
+put_many : (x : ℕ) (t : Tree) (ss : List Pair) → length (map (subst_pair x t) ss) ≡ length ss
+put_many x t [] = refl
+put_many x t (s ∷ ss) = ap suc (put_many x t ss)
+
+-- Terms are put for names until none is left: then there are circles, and as many other equations as before.
+pub record Settled (rs : List Rule) (total : ℕ → ℕ) (ts : List Tree) (bs zs : List Binding) (ss : List Pair) (next : ℕ) : Type 0 where
+  pub terms : List Tree
+  pub circles : List Binding
+  pub ends : List Pair
+  pub net : OneNet (in_bindings ts bs zs ss next) (in_bindings terms [] circles ends next)
+  pub bound : Bound rs total (in_bindings terms [] circles ends next) [] circles ends
+  pub many : length ends ≡ length ss
+
+pub to_ends : NetLaws → (rs : List Rule) (total : ℕ → ℕ) (k : ℕ) (ts : List Tree) (bs zs : List Binding) (ss : List Pair) (next : ℕ) → length bs ≡ k
+    → HasNames (in_bindings ts bs zs ss next) → Bound rs total (in_bindings ts bs zs ss next) bs zs ss → Settled rs total ts bs zs ss next
+to_ends laws rs total k ts [] zs ss next len named is =
+    record { terms = ts; circles = zs; ends = ss; net = laws.itself (in_bindings ts [] zs ss next) named; bound = is; many = refl }
+to_ends laws rs total zero ts (b ∷ bs) zs ss next len named is = absurd (omega arith)
+to_ends laws rs total (suc k) ts (b ∷ bs) zs ss next len named is =
     at (occurrences b.name (names_in ts (map piece_of bs ++ (map piece_of zs ++ ss))) == 0) refl
-    (λ us cs ws qs same named_too is_too. to_quiet laws rs total k us cs ws qs next same named_too is_too)
+    (λ us cs ws qs same named_too is_too. to_ends laws rs total k us cs ws qs next same named_too is_too)
   where
     at : (e : Bool) → (occurrences b.name (names_in ts (map piece_of bs ++ (map piece_of zs ++ ss))) == 0) ≡ e
         → ((us : List Tree) (cs ws : List Binding) (qs : List Pair) → length cs ≡ k → HasNames (in_bindings us cs ws qs next) → Bound rs total (in_bindings us cs ws qs next) cs ws qs
-        → (e : Configuration) × OneNet (in_bindings us cs ws qs next) e × IsQuiet rs e)
-        → (e : Configuration) × OneNet (in_bindings ts (b ∷ bs) zs ss next) e × IsQuiet rs e
+        → Settled rs total us cs ws qs next)
+        → Settled rs total ts (b ∷ bs) zs ss next
     at true e rest =
         let none = (unsigned_Decides (occurrences b.name (names_in ts (map piece_of bs ++ (map piece_of zs ++ ss)))) 0).0 e in
         let step = drop_bound laws rs total ts b bs zs ss next named is none in
         let more = rest ts bs (b ∷ zs) ss (omega arith) step.0.names_too step.1 in
-        (more.0, laws.through (in_bindings ts (b ∷ bs) zs ss next) (in_bindings ts bs (b ∷ zs) ss next) more.0 step.0 more.1, more.2)
+        record {
+          terms = more.terms;
+          circles = more.circles;
+          ends = more.ends;
+          net = laws.through (in_bindings ts (b ∷ bs) zs ss next) (in_bindings ts bs (b ∷ zs) ss next) (in_bindings more.terms [] more.circles more.ends next) step.0 more.net;
+          bound = more.bound;
+          many = more.many;
+        }
     at false e rest =
         let some = not_zero (occurrences b.name (names_in ts (map piece_of bs ++ (map piece_of zs ++ ss)))) e in
         let step = put_bound laws rs total ts b bs zs ss next named is some in
         let len_too = put_length b.name b.term bs in
-        let more = rest (map (subst b.name b.term) ts) (put_terms b.name b.term bs) (put_terms b.name b.term zs) (map (subst_pair b.name b.term) ss) (omega arith) step.0.names_too step.1 in (
-          more.0,
-          laws.through (in_bindings ts (b ∷ bs) zs ss next)
-              (in_bindings (map (subst b.name b.term) ts) (put_terms b.name b.term bs) (put_terms b.name b.term zs) (map (subst_pair b.name b.term) ss) next) more.0 step.0 more.1,
-          more.2,
-        )
+        let more = rest (map (subst b.name b.term) ts) (put_terms b.name b.term bs) (put_terms b.name b.term zs) (map (subst_pair b.name b.term) ss) (omega arith) step.0.names_too step.1 in
+        record {
+          terms = more.terms;
+          circles = more.circles;
+          ends = more.ends;
+          net = laws.through (in_bindings ts (b ∷ bs) zs ss next)
+              (in_bindings (map (subst b.name b.term) ts) (put_terms b.name b.term bs) (put_terms b.name b.term zs) (map (subst_pair b.name b.term) ss) next)
+              (in_bindings more.terms [] more.circles more.ends next) step.0 more.net;
+          bound = more.bound;
+          many = more.many ∙ put_many b.name b.term ss;
+        }
       where
         not_zero : (m : ℕ) → (m == 0) ≡ false → 1 ≤ m
         not_zero zero e = absurd (true_false e)
@@ -577,3 +605,11 @@ to_quiet laws rs total (suc k) ts (b ∷ bs) zs ss next len named is =
             true_false : true ≡ false → ⊥
             true_false e = cc
         not_zero (suc m) e = omega arith
+
+-- What then stands is quiet.
+pub to_quiet : NetLaws → (rs : List Rule) (total : ℕ → ℕ) (k : ℕ) (ts : List Tree) (bs zs : List Binding) (ss : List Pair) (next : ℕ) → length bs ≡ k
+    → HasNames (in_bindings ts bs zs ss next) → Bound rs total (in_bindings ts bs zs ss next) bs zs ss
+    → (e : Configuration) × OneNet (in_bindings ts bs zs ss next) e × IsQuiet rs e
+to_quiet laws rs total k ts bs zs ss next len named is =
+    let e = to_ends laws rs total k ts bs zs ss next len named is in
+    (in_bindings e.terms [] e.circles e.ends next, e.net, quiet_end rs total e.terms e.circles e.ends next e.bound)

@@ -202,6 +202,16 @@ interaction_of rs n i p place xs ys f number turned r set is there found over st
         at (inl here) = let a = here.0 in omega arith
         at (inr here) = here.0
 
+pub interaction_pair : (rs : Rules) (n : Numbers) (i : List Word) (p : Plans) (place : ℕ) (xs ys : List Piece) (f : Fires p place xs ys) (number : ℕ) (turned : Bool) (r : Rule)
+    → (set : IsRuleSet rs) (is : IsRule r) (there : slice_get rs.rules number ≡ Some r) (found : rule_for rs.rules f.left f.right ≡ Some (number, turned))
+    → (over : is_over rs.symbols (met_in n i p place xs ys f) ≡ true)
+    → (stands : StandsFor n.arities (met_as turned r) f.plan)
+    → (left_length : length f.left_args ≡ length (met_as turned r).left_args) (right_length : length f.right_args ≡ length (met_as turned r).right_args)
+    → (s : Setting n (met_in n i p place xs ys f) (map (term n) i) (flat_map (equations_of n) f.rest) (f.left_args ++ f.right_args) (f.names ++ f.made) (met_as turned r) f.plan.names stands.registers)
+    → (interaction_of rs n i p place xs ys f number turned r set is there found over stands left_length right_length s).equation ≡ meeting n f.left f.left_args f.right f.right_args
+unfolding interaction_of
+interaction_pair rs n i p place xs ys f number turned r set is there found over stands left_length right_length s = refl
+
 -- ---- from the products to the pieces
 
 below_filter : (count : ℕ) (test : Argument → Bool) (ds : List Argument) → AreBelow count ds → AreBelow count (filter test ds)

@@ -17,3 +17,14 @@ pub mod Quiet
 pub mod Free
 pub mod Ends
 pub mod Added
+pub mod Removed
+pub mod AgentsStay
+pub mod Meetings
+pub mod Going
+pub mod Rounds
+pub mod Joined
+pub mod PairsStay
+pub mod FirstPlan
+pub mod FirstRound
+pub mod InPlace
+pub mod Circles

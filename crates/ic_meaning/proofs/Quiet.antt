@@ -7,6 +7,7 @@ use Rattle.std.specs.List.{flat_map, AllByRecursion}
 use Rattle.std.specs.Prelude.{IsPermutation, ◌↔◌}
 use Rattle.ic_term.specs.Tree.{Tree, name, agent, no_trees, trees_of, names, Pair, pair_names}
 use Rattle.ic_term.specs.Configuration.{Configuration, configuration_names, names_in, occurrences}
+use Rattle.ic_rules.specs.Rule.{Rule}
 use Rattle.ic_rules.specs.RuleSet.{Rules, IsRuleSet}
 use Rattle.ic_settle.specs.Settling.{Binding}
 use Rattle.ic_settle.specs.lemmas.SubstitutionLaws.{occurrences-append, occurrences-cons}
@@ -18,6 +19,7 @@ use Rattle.ic_arena.specs.declared.word.Word.{Word}
 use Rattle.ic_arena.specs.declared.word.TheConstants.{NAME, GIVEN}
 use Rattle.ic_arena.specs.Word.{word_eq, count}
 use Rattle.ic_arena.specs.Piece.{Piece, equated, idle, waits, agent_of, room, uses}
+use Rattle.ic_machine.specs.Net.{IsPairPiece}
 use Rattle.ic_machine.specs.Plan.{Plans, plan_of}
 use Rattle.ic_machine.specs.Separate.{IsSeparate, is_constant_tag}
 use Rattle.ic_meaning.specs.Words.{Numbers, AreNumbers, term}
@@ -265,11 +267,20 @@ all_stuck rs numbers p n i total whole (agent_of a ws ∷ ps) set plans free are
 
 -- ---- the net
 
-pub quiet_net : NetLaws → (rs : Rules) (numbers : List ℕ) (p : Plans) (n : Numbers) (i : List Word) (ps : List Piece) → IsRuleSet rs → ArePlansOf rs numbers p → AreNumbers n
-    → AreNetPieces n.arities i ps → HasNames (net_of n i ps) → AllByRecursion (IsStuckPiece p) ps
+-- a net in pieces is one with this, if its equations are stuck for the rules
+pub record Parted (rs : List Rule) (n : Numbers) (i : List Word) (ps : List Piece) : Type 0 where
+  pub first : OneNet (net_of n i ps) (in_bindings (map (term n) i) (bindings_of n ps) [] (equated_in n ps) (net_of n i ps).next)
+  pub bound : Bound rs (λ m. occurrences m (configuration_names (net_of n i ps)))
+      (in_bindings (map (term n) i) (bindings_of n ps) [] (equated_in n ps) (net_of n i ps).next) (bindings_of n ps) [] (equated_in n ps)
+
+abbrev pub total_of : Numbers → List Word → List Piece → ℕ → ℕ
+total_of n i ps m = occurrences m (configuration_names (net_of n i ps))
+
+pub in_parts : (laws : NetLaws) (rs : List Rule) (n : Numbers) (i : List Word) (ps : List Piece) → AreNumbers n → AreNetPieces n.arities i ps → HasNames (net_of n i ps)
     → ((x : ℕ) → (occurrences x (configuration_names (net_of n i ps)) ≡ 1) ↔ ((j : ℕ) × (slice_get n.given j ≡ Some x)))
-    → (e : Configuration) × OneNet (net_of n i ps) e × IsQuiet rs.rules e
-quiet_net laws rs numbers p n i ps set plans sound are named stuck free =
+    → (((j x : ℕ) → slice_get n.given j ≡ Some x → total_of n i ps x ≡ 1) → AllByRecursion (Stuck rs (total_of n i ps) (bindings_of n ps)) (equated_in n ps))
+    → Parted rs n i ps
+in_parts laws rs n i ps sound are named free stuck =
     let c : Configuration = net_of n i ps in
     let total : ℕ → ℕ = λ m. occurrences m (configuration_names c) in
     let bs : List Binding = bindings_of n ps in
@@ -285,12 +296,71 @@ quiet_net laws rs numbers p n i ps set plans sound are named stuck free =
     omega arith) in
     let given_once : (j x : ℕ) → slice_get n.given j ≡ Some x → total x ≡ 1 = (λ j x is. (free x).1 (j, is)) in
     let not_free : (w : Word) → total (n.of_place w) ≡ 1 → ⊥ = (λ w one. let found = (free (n.of_place w)).0 one in sound.not_given found.0 (n.of_place w) w found.1 refl) in
-    let is : Bound rs.rules total d bs [] ss = record {
-      counts = λ m some. same m;
-      heads = heads_twice n total bs (all_placed n ps) inside named.twice not_free;
-      apart = heads_apart n ps sound are.once;
-      circles = tt;
-      stuck = all_stuck rs numbers p n i total ps ps set plans given_once are.each are.separate (λ w. omega arith) stuck;
-    } in
-    let end = to_quiet laws rs.rules total (length bs) (map (term n) i) bs [] ss c.next refl first.names_too is in
-    (end.0, laws.through c d end.0 first end.1, end.2)
+    record {
+      first = first;
+      bound = record {
+        counts = λ m some. same m;
+        heads = heads_twice n total bs (all_placed n ps) inside named.twice not_free;
+        apart = heads_apart n ps sound are.once;
+        circles = tt;
+        stuck = stuck given_once;
+      };
+    }
+
+pub quiet_net : NetLaws → (rs : Rules) (numbers : List ℕ) (p : Plans) (n : Numbers) (i : List Word) (ps : List Piece) → IsRuleSet rs → ArePlansOf rs numbers p → AreNumbers n
+    → AreNetPieces n.arities i ps → HasNames (net_of n i ps) → AllByRecursion (IsStuckPiece p) ps
+    → ((x : ℕ) → (occurrences x (configuration_names (net_of n i ps)) ≡ 1) ↔ ((j : ℕ) × (slice_get n.given j ≡ Some x)))
+    → (e : Configuration) × OneNet (net_of n i ps) e × IsQuiet rs.rules e
+quiet_net laws rs numbers p n i ps set plans sound are named stuck free =
+    let c : Configuration = net_of n i ps in
+    let bs : List Binding = bindings_of n ps in
+    let ss : List Pair = equated_in n ps in
+    let d : Configuration = in_bindings (map (term n) i) bs [] ss c.next in
+    let parts = in_parts laws rs.rules n i ps sound are named free
+    (λ given_once. all_stuck rs numbers p n i (total_of n i ps) ps ps set plans given_once are.each are.separate (λ w. omega arith) stuck) in
+    let end = to_quiet laws rs.rules (total_of n i ps) (length bs) (map (term n) i) bs [] ss c.next refl parts.first.names_too parts.bound in
+    (end.0, laws.through c d end.0 parts.first end.1, end.2)
+
+-- ---- pairs, whatever their rules
+
+pairs_stuck : (n : Numbers) (i : List Word) (total : ℕ → ℕ) (whole ps : List Piece)
+    → ((j x : ℕ) → slice_get n.given j ≡ Some x → total x ≡ 1) → ArePieces n.arities whole → IsSeparate n.arities i whole
+    → ((w : Word) → sum_by (uses w) ps ≤ sum_by (uses w) whole) → AllByRecursion IsPairPiece ps
+    → AllByRecursion (Stuck [] total (bindings_of n whole)) (equated_in n ps)
+pairs_stuck n i total whole [] free are separate inside pairs = tt
+pairs_stuck n i total whole (equated l r ∷ ps) free are separate inside pairs =
+    let of_left = left_used l r in
+    let of_right = right_used l r in
+    let less_left = inside l in
+    let less_right = inside r in
+    let parts_left = sum_by-cons (uses l) (equated l r) ps in
+    let parts_right = sum_by-cons (uses r) (equated l r) ps in
+    let left = word_side n total (bindings_of n whole) l pairs.0.0 free (bound_word n i whole l are separate pairs.0.0 (omega arith)) in
+    let right = word_side n total (bindings_of n whole) r pairs.0.1 free (bound_word n i whole r are separate pairs.0.1 (omega arith)) in (
+      record {
+        left_symbol = left.symbol;
+        right_symbol = right.symbol;
+        left = left.side;
+        right = right.side;
+        none = no_rules left.symbol right.symbol;
+      },
+      pairs_stuck n i total whole ps free are separate
+          (λ w. let less = inside w in let parts = sum_by-cons (uses w) (equated l r) ps in omega arith) pairs.1,
+    )
+  where
+    no_rules : (o q : Option ℕ) → HaveNoRule [] o q
+    no_rules None q = tt
+    no_rules (Some a) None = tt
+    no_rules (Some a) (Some b) = refl
+pairs_stuck n i total whole (idle x ∷ ps) free are separate inside pairs =
+    pairs_stuck n i total whole ps free are separate (λ w. let less = inside w in let parts = sum_by-cons (uses w) (idle x) ps in omega arith) pairs.1
+pairs_stuck n i total whole (waits x u ∷ ps) free are separate inside pairs =
+    pairs_stuck n i total whole ps free are separate (λ w. let less = inside w in let parts = sum_by-cons (uses w) (waits x u) ps in omega arith) pairs.1
+pairs_stuck n i total whole (agent_of a ws ∷ ps) free are separate inside pairs =
+    pairs_stuck n i total whole ps free are separate (λ w. let less = inside w in let parts = sum_by-cons (uses w) (agent_of a ws) ps in omega arith) pairs.1
+
+pub pairs_in_parts : (laws : NetLaws) (n : Numbers) (i : List Word) (ps : List Piece) → AreNumbers n → AreNetPieces n.arities i ps → HasNames (net_of n i ps)
+    → ((x : ℕ) → (occurrences x (configuration_names (net_of n i ps)) ≡ 1) ↔ ((j : ℕ) × (slice_get n.given j ≡ Some x)))
+    → AllByRecursion IsPairPiece ps → Parted [] n i ps
+pairs_in_parts laws n i ps sound are named free pairs =
+    in_parts laws [] n i ps sound are named free (λ given_once. pairs_stuck n i (total_of n i ps) ps ps given_once are.each are.separate (λ w. omega arith) pairs)

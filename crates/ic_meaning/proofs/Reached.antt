@@ -14,6 +14,7 @@ use Rattle.ic_round.specs.Naming.{HasNames}
 use Rattle.ic_round.specs.lemmas.ActiveRules.{sides_fit, oriented_rule}
 use Rattle.ic_round.specs.lemmas.AnyOrder.{each_permuted as all_order}
 use Rattle.ic_reaching.specs.OneNet.{OneNet}
+use Rattle.ic_reaching.specs.FreshNames.{Fires as FiresBy}
 use Rattle.ic_reaching.specs.Reaching.{Reaches}
 use Rattle.ic_arena.specs.declared.word.Word.{Word}
 use Rattle.ic_arena.specs.declared.word.TheConstants.{NAME}
@@ -36,9 +37,9 @@ use Rattle.ic_meaning.proofs.Registers.{register_back, held_in, registers_of, pl
 use Rattle.ic_meaning.proofs.Taken.{made_pieces, take_made, ArePlaces}
 use Rattle.ic_meaning.proofs.Wholes.{with_equations, put_back, order_net, turns_net, puts_net, meets_net, joins_net}
 use Rattle.ic_meaning.proofs.Settings.{FreeWord, Setting, above_all}
-use Rattle.ic_meaning.proofs.Fired.{agent_term, to_meeting}
+use Rattle.ic_meaning.proofs.Fired.{agent_term, meeting, to_meeting}
 use Rattle.ic_meaning.proofs.Fires.{rule_of_plan, fits_lengths, made_agent, plan_equations, used_held, places_from}
-use Rattle.ic_meaning.proofs.Interacts.{met_in, setting_of, sides_over, fired_in, interaction_of, assembled, to_assembled}
+use Rattle.ic_meaning.proofs.Interacts.{met_in, setting_of, sides_over, fired_in, interaction_of, interaction_pair, assembled, to_assembled}
 use Rattle.ic_machine.specs.lemmas.FiringKeeps.{all_append}
 
 -- ---- from the net put together to its pieces
@@ -131,11 +132,21 @@ plan_of_fires p place xs ys f sound =
     transport (λ (o : Option Planned). IfSome o (IsPlan p.arities (length f.left_args + length f.right_args))) is of_pair in
     transport (λ (k : ℕ). IsPlan p.arities k f.plan) (sym (length-append f.left_args f.right_args)) plan
 
-pub fires_reach : ReachLaws → (rs : Rules) (numbers : List ℕ) (p : Plans) (n : Numbers) (c : Configuration) (i : List Word) (xs ys : List Piece) (before : List ℕ) (place : ℕ)
+-- The rule of a plan that fires, and what its interaction leads to: one net with the pieces after it.
+pub record FiredParts (rs : Rules) (numbers : List ℕ) (n : Numbers) (i : List Word) (p : Plans) (place : ℕ) (xs ys : List Piece) (f : Fires p place xs ys) : Type 0 where
+  pub number : ℕ
+  pub numbered : slice_get numbers place ≡ Some number
+  pub end : Configuration
+  pub step : FiresBy rs.rules (met_in n i p place xs ys f) end number
+  pub pair : step.equation ≡ meeting n f.left f.left_args f.right f.right_args
+  pub to_met : OneNet (net_of n i xs) (met_in n i p place xs ys f)
+  pub net : OneNet end (net_of n i ys)
+
+pub fires_parts : ReachLaws → (rs : Rules) (numbers : List ℕ) (p : Plans) (n : Numbers) (c : Configuration) (i : List Word) (xs ys : List Piece) (before : List ℕ) (place : ℕ)
     → IsRuleSet rs → IsTrue (is_over rs.symbols c) → HasNames c → ArePlans p → ArePlansOf rs numbers p → AreNumbers n → n.arities ≡ p.arities
-    → IsSeparate n.arities i xs → Reaches rs.rules c (net_of n i xs) before → Fires p place xs ys
-    → (number : ℕ) × (slice_get numbers place ≡ Some number) × Reaches rs.rules c (net_of n i ys) (before ++ number ∷ [])
-fires_reach laws rs numbers p n c i xs ys before place set over named plans of_rules sound same separate reached f =
+    → IsSeparate n.arities i xs → Reaches rs.rules c (net_of n i xs) before → (f : Fires p place xs ys)
+    → FiredParts rs numbers n i p place xs ys f
+fires_parts laws rs numbers p n c i xs ys before place set over named plans of_rules sound same separate reached f =
     let la : slice_get n.arities f.left ≡ Some (length f.left_args) = ap (λ (a : List ℕ). slice_get a f.left) same ∙ f.left_arity in
     let ra : slice_get n.arities f.right ≡ Some (length f.right_args) = ap (λ (a : List ℕ). slice_get a f.right) same ∙ f.right_arity in
     let d : Configuration = met_in n i p place xs ys f in
@@ -167,10 +178,28 @@ fires_reach laws rs numbers p n c i xs ys before place set over named plans of_r
     let reach_e = laws.fires rs c d e before found.rule set over named reach_d step in
     let whole = to_assembled laws.nets n i p place xs ys f found.turned r is stands s (laws.names rs c e (before ++ found.rule ∷ []) reach_e) in
     let all = to_pieces laws.nets n i p place xs ys f (met_as found.turned r) e same plan stands s whole in
-    (found.rule, of.number, laws.net rs c e (net_of n i ys) (before ++ found.rule ∷ []) reach_e all)
+    record {
+      number = found.rule;
+      numbered = of.number;
+      end = e;
+      step = step;
+      pair = interaction_pair rs n i p place xs ys f found.rule found.turned r set is of.rule_there found.is over_d stands lengths.0 lengths.1 s;
+      to_met = to_d;
+      net = all;
+    }
   where
     some_same : {X : Type 0} {x y : X} → Some x ≡ Some y → x ≡ y
     some_same e = cc
+
+pub fires_reach : ReachLaws → (rs : Rules) (numbers : List ℕ) (p : Plans) (n : Numbers) (c : Configuration) (i : List Word) (xs ys : List Piece) (before : List ℕ) (place : ℕ)
+    → IsRuleSet rs → IsTrue (is_over rs.symbols c) → HasNames c → ArePlans p → ArePlansOf rs numbers p → AreNumbers n → n.arities ≡ p.arities
+    → IsSeparate n.arities i xs → Reaches rs.rules c (net_of n i xs) before → Fires p place xs ys
+    → (number : ℕ) × (slice_get numbers place ≡ Some number) × Reaches rs.rules c (net_of n i ys) (before ++ number ∷ [])
+fires_reach laws rs numbers p n c i xs ys before place set over named plans of_rules sound same separate reached f =
+    let parts = fires_parts laws rs numbers p n c i xs ys before place set over named plans of_rules sound same separate reached f in
+    let reach_d = laws.net rs c (net_of n i xs) (met_in n i p place xs ys f) before reached parts.to_met in
+    let reach_e = laws.fires rs c (met_in n i p place xs ys f) parts.end before parts.number set over named reach_d parts.step in
+    (parts.number, parts.numbered, laws.net rs c parts.end (net_of n i ys) (before ++ parts.number ∷ []) reach_e parts.net)
 
 -- ---- pieces stay pieces
 

@@ -29,7 +29,7 @@ pub higher_all : (a b : ℕ) (ns : List ℕ) → a ≤ b → AllByRecursion (λ 
 higher_all a b [] high all = tt
 higher_all a b (n ∷ ns) high all = ((let low = all.0 in let h : n < b = omega arith in h), higher_all a b ns high all.1)
 
-above_each : (ns : List ℕ) → AllByRecursion (λ n. n < one_above ns) ns
+pub above_each : (ns : List ℕ) → AllByRecursion (λ n. n < one_above ns) ns
 above_each [] = tt
 above_each (n ∷ ns) = ((let h : n < max (n + 1) (one_above ns) = omega arith in h), higher_all (one_above ns) (max (n + 1) (one_above ns)) ns (omega arith) (above_each ns))
 

@@ -1,5 +1,9 @@
 pub mod Words
 pub mod Nets
 pub mod Plans
+pub mod Generations
+pub mod Circles
+pub mod First
+pub mod InPlace
 pub mod Example
 pub mod lemmas

@@ -1,6 +1,7 @@
 -- What a table holds for names.
 use Rattle.std.specs.Prelude.{ℕ, ◌-◌, ◌==◌, List, Option, None, Some, slice_get, nat_le, if◌then◌else◌}
-use Rattle.std.specs.HashMap.{get}
+use Rattle.std.specs.Ordering.{nat_cmp}
+use Rattle.std.specs.BTreeMap.{get}
 use Rattle.ic_names.specs.declared.row.Row.{Row}
 use Rattle.ic_names.specs.declared.row.TheConstants.{NONE}
 use Rattle.ic_names.specs.declared.table.NameTable.{NameTable}
@@ -26,4 +27,4 @@ told (Some n) other = if n == NONE then None else Some n
 
 -- the number that a name has
 unfoldable pub found : NameTable → ℕ → Option ℕ
-found table x = told (slot_of table.rows.items x) (get (λ a b. a == b) table.others x)
+found table x = told (slot_of table.rows.items x) (get nat_cmp table.others x)

@@ -45,26 +45,18 @@ impl Span {
             0
         }
     }
-
-    /// How many of these names get none.
-    fn apart(self) -> u64 {
-        if self.width() == 0 { self.count } else { 0 }
-    }
 }
 
-/// Rows without numbers, in which these names have places, unless there would be too many; and how many names have none, as
-/// often as they stand there.
-pub(crate) fn rows_for(alloc: Global, names: &[u64]) -> Result<(Vec<Row>, usize), AllocError>
-    ensures { IfOk result (λ made. AllByRecursion IsBlank made.0.items) }
+/// Rows without numbers, in which these names have places, unless there would be too many.
+pub(crate) fn rows_for(alloc: Global, names: &[u64]) -> Result<Vec<Row>, AllocError>
+    ensures { IfOk result (λ rows. AllByRecursion IsBlank rows.items) }
 {
     let spans = spans_of(alloc, names)?;
     let mut rows = Vec::with_capacity(alloc, ROWS)?;
-    let mut apart = 0u64;
     for span in &spans {
         rows.push(Row::blank(alloc, span.first, span.width())?)?;
-        apart = apart.saturating_add(span.apart());
     }
-    Ok((rows, apart as usize))
+    Ok(rows)
 }
 
 /// What names stand in each row.

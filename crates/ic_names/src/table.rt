@@ -6,27 +6,26 @@ ghost use Rattle.ic_names.specs.Table.{found, slot_of};
 use crate::row::{NONE, Row, column_of, row_of};
 use crate::span::rows_for;
 use std::alloc::{AllocError, Global};
-use std::collections::HashMap;
+use std::collections::BTreeMap;
 
 /// For each name a number, if it has one.
 #[derive(Drop)]
 pub struct NameTable {
     rows: Vec<Row>,
     /// The numbers of names that have no place in the rows.
-    others: HashMap<u64, u32>,
+    others: BTreeMap<u64, u32>,
 }
 
 impl NameTable {
     ghost use Rattle.ic_names.specs.Table.{found, slot_of};
 
     /// A table in which no name has a number yet, laid out for these names. It takes four slots of 4 bytes for each of
-    /// them at most, as often as it stands there, and time in proportion. For those that have no slots there is room in a
-    /// map, if each of them stands there twice.
+    /// them at most, as often as it stands there, and time in proportion.
     pub fn new(alloc: Global, names: &[u64]) -> Result<NameTable, AllocError>
         ensures { IfOk result (λ table. (x : ℕ) → found table x ≡ None) }
     {
-        let (rows, apart) = rows_for(alloc, names)?;
-        let others = HashMap::with_capacity(alloc, apart / 2)?;
+        let rows = rows_for(alloc, names)?;
+        let others = BTreeMap::new(alloc);
         Ok(NameTable { rows, others })
     }
 

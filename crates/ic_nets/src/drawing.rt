@@ -2,6 +2,7 @@
 
 use crate::net::{Agent, Net, Wire};
 use crate::port::Port;
+use ic_rules::RuleSet;
 use ic_term::Symbols;
 use ic_text::put_name;
 use std::alloc::{AllocError, Global};
@@ -10,13 +11,15 @@ use std::alloc::{AllocError, Global};
 ///
 /// The principal port is at the symbol, where an edge has an arrow head. Where an agent has more than two auxiliary
 /// ports, each has its number. The places of the interface and free names are small vertices, and an equation of two
-/// names is a point. An agent whose symbol is unknown has no text.
-pub fn dot(alloc: Global, symbols: &Symbols, net: &Net) -> Result<Vec<u8>, AllocError> {
+/// names is a point. An agent whose symbol is unknown has no text. An active pair is thick and, where there are rules, a
+/// pair without one is dashed. A wire from an agent to itself goes round it.
+pub fn dot(alloc: Global, rules: &RuleSet, net: &Net) -> Result<Vec<u8>, AllocError> {
+    let has_rules = !rules.rules().is_empty();
     let mut out = Vec::new(alloc);
     put_head(&mut out)?;
-    put_agents(alloc, symbols, &net.agents, &mut out)?;
+    put_agents(alloc, rules.symbols(), &net.agents, &mut out)?;
     put_joints(alloc, net.joints, &mut out)?;
-    put_wires(alloc, &net.wires, &mut out)?;
+    put_wires(alloc, &net.wires, has_rules, &mut out)?;
     out.extend_from_slice(b"}\n")?;
     Ok(out)
 }
@@ -134,31 +137,77 @@ fn put_joint(alloc: Global, joint: usize, out: &mut Vec<u8>) -> Result<(), Alloc
 }
 
 /// Appends the edges of wires.
-fn put_wires(alloc: Global, wires: &[Wire], out: &mut Vec<u8>) -> Result<(), AllocError> {
+fn put_wires(
+    alloc: Global,
+    wires: &[Wire],
+    has_rules: bool,
+    out: &mut Vec<u8>,
+) -> Result<(), AllocError> {
     for wire in wires {
-        put_wire(alloc, wire, out)?;
+        put_wire(alloc, wire, has_rules, out)?;
     }
     Ok(())
 }
 
 /// Appends the edge of a wire.
-fn put_wire(alloc: Global, wire: &Wire, out: &mut Vec<u8>) -> Result<(), AllocError> {
-    put_port(alloc, wire.from, out)?;
+fn put_wire(
+    alloc: Global,
+    wire: &Wire,
+    has_rules: bool,
+    out: &mut Vec<u8>,
+) -> Result<(), AllocError> {
+    put_end(alloc, wire, wire.from, out)?;
     out.extend_from_slice(b" -- ")?;
-    put_port(alloc, wire.to, out)?;
-    out.extend_from_slice(style_of(wire))?;
+    put_end(alloc, wire, wire.to, out)?;
+    out.extend_from_slice(style_of(wire, has_rules))?;
     out.push(b'\n')?;
     Ok(())
 }
 
-/// How the edge of a wire is drawn: with an arrow head at each principal port, and thick at an active pair.
-fn style_of(wire: &Wire) -> &'static [u8] {
+/// Appends an end of a wire: the port and, where both ends are at one agent, the side of its box.
+fn put_end(alloc: Global, wire: &Wire, port: Port, out: &mut Vec<u8>) -> Result<(), AllocError> {
+    put_port(alloc, port, out)?;
+    if is_loop(wire) {
+        out.push(b':')?;
+        out.push(if is_principal(port) { b'n' } else { b's' })?;
+    }
+    Ok(())
+}
+
+/// Whether both ends of a wire are at one agent.
+fn is_loop(wire: &Wire) -> bool {
+    match (agent_at(wire.from), agent_at(wire.to)) {
+        (Some(one), Some(other)) => one == other,
+        _ => false,
+    }
+}
+
+/// The agent whose port this is, if it is one's.
+fn agent_at(port: Port) -> Option<usize> {
+    match port {
+        Port::Principal(agent) | Port::Auxiliary(agent, _) => Some(agent),
+        _ => None,
+    }
+}
+
+/// How the edge of a wire is drawn: with an arrow head at each principal port, thick at an active pair, and dashed at a pair
+/// for which none of the rules is.
+fn style_of(wire: &Wire, has_rules: bool) -> &'static [u8] {
     match (wire.active, is_principal(wire.from), is_principal(wire.to)) {
         (true, _, _) => b" [dir=both, penwidth=3]",
-        (false, true, true) => b" [dir=both]",
+        (false, true, true) => pair_style(has_rules),
         (false, true, false) => b" [dir=back]",
         (false, false, true) => b" [dir=forward]",
         (false, false, false) => b"",
+    }
+}
+
+/// How a pair is drawn that isn't active.
+fn pair_style(has_rules: bool) -> &'static [u8] {
+    if has_rules {
+        b" [dir=both, style=dashed]"
+    } else {
+        b" [dir=both]"
     }
 }
 

@@ -71,7 +71,7 @@ fn graph_of(alloc: Global, text: &[u8], told: &mut Vec<u8>) -> Result<Vec<u8>, S
 /// The graph of the net of a configuration.
 pub fn draw(alloc: Global, rules: &RuleSet, config: &Config) -> Result<Vec<u8>, AllocError> {
     let net = net_of(alloc, rules, config)?;
-    dot(alloc, rules.symbols(), &net)
+    dot(alloc, rules, &net)
 }
 
 /// Whether the first byte that isn't blank is `{`.

@@ -10,3 +10,5 @@ pub mod GivenLemmas
 pub mod NetLemmas
 pub mod RoomLemmas
 pub mod ListedLemmas
+pub mod GenerationLemmas
+pub mod PendingLemmas

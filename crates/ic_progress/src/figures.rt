@@ -13,7 +13,7 @@ use std::alloc::{AllocError, Global};
 use std::fmt::Write;
 
 /// The lines that tell the figures of a reduction by so many threads that took so many milliseconds: how many steps were
-/// made, how many places there were and equations were left, the threads, how fast it was, and how often each rule fired.
+/// made, how many names and agents there were and equations were left, the threads, how fast it was, and how often each rule fired.
 pub fn figures_lines(
     alloc: Global,
     outcome: &Outcome,
@@ -78,10 +78,10 @@ fn rest_of_lines(
     if let Some(count) = outcome.name_steps {
         write!(out, ", name steps {count}")?;
     }
-    let (places, left, shared) = (outcome.places, outcome.left, outcome.shared);
+    let (nodes, left, shared) = (outcome.nodes, outcome.left, outcome.shared);
     write!(
         out,
-        ", places {places}, equations {left}, threads {threads}, shared {shared}"
+        ", nodes {nodes}, equations {left}, threads {threads}, shared {shared}"
     )?;
     let (seconds, thousandths) = (millis / 1_000, millis % 1_000);
     write!(out, ", seconds {seconds}.{thousandths:03}")?;
@@ -159,20 +159,27 @@ fn put_bytes(bytes: &[u8], out: &mut String) -> Result<(), AllocError> {
     Ok(())
 }
 
-/// What the object tells before the interactions: how the reduction ended, and the pair that is stuck.
+/// What the object tells before the interactions: how the reduction ended, the pair that is stuck and the circle.
 fn front_of_object(alloc: Global, outcome: &Outcome) -> Result<String, AllocError> {
     let end = end_word(outcome.end);
     let mut out = format!(in alloc; "{{\"end\":\"{end}\",\"stuck\":")?;
-    match &outcome.stuck {
-        Some(pair) => {
-            out.push('"')?;
-            put_bytes(pair, &mut out)?;
-            out.push('"')?;
-        }
-        None => out.push_str("null")?,
-    }
+    put_some(&outcome.stuck, &mut out)?;
+    out.push_str(",\"circle\":")?;
+    put_some(&outcome.circle, &mut out)?;
     out.push(',')?;
     Ok(out)
+}
+
+/// Appends a text of ASCII as a string, or null.
+fn put_some(text: &Option<Vec<u8>>, out: &mut String) -> Result<(), AllocError> {
+    match text {
+        Some(text) => {
+            out.push('"')?;
+            put_bytes(text, out)?;
+            out.push('"')
+        }
+        None => out.push_str("null"),
+    }
 }
 
 /// What the object tells after the interactions.
@@ -186,10 +193,10 @@ fn rest_of_object(
     if let Some(count) = outcome.name_steps {
         write!(out, ",\"name_steps\":{count}")?;
     }
-    let (places, left, shared) = (outcome.places, outcome.left, outcome.shared);
+    let (nodes, left, shared) = (outcome.nodes, outcome.left, outcome.shared);
     write!(
         out,
-        ",\"places\":{places},\"equations\":{left},\"threads\":{threads}"
+        ",\"nodes\":{nodes},\"equations\":{left},\"threads\":{threads}"
     )?;
     write!(
         out,
@@ -225,7 +232,7 @@ fn end_word(end: End) -> &'static str {
     match end {
         End::Quiet => "quiet",
         End::Steps => "steps",
-        End::Nodes => "places",
+        End::Nodes => "nodes",
         End::Limit => "limit",
         End::Memory => "memory",
     }

@@ -31,12 +31,12 @@ pub(crate) fn progress_line(
     }
 }
 
-/// The line of so many interactions, so many a second and so many places, in place of the one before.
+/// The line of so many interactions, so many a second and so many names and agents, in place of the one before.
 pub(crate) fn reducing_line(
     alloc: Global,
     interactions: u64,
     a_second: u64,
-    places: u64,
+    nodes: u64,
 ) -> Result<String, AllocError> {
-    format!(in alloc; "\rinteractions {interactions}, a second {a_second}, places {places}\x1b[K")
+    format!(in alloc; "\rinteractions {interactions}, a second {a_second}, nodes {nodes}\x1b[K")
 }

@@ -181,10 +181,10 @@ impl<'a> Watching<'a> {
 }
 
 impl Watch for Watching<'_> {
-    fn saw(&self, interactions: u64, places: u64) {
+    fn saw(&self, interactions: u64, nodes: u64) {
         let seen = Seen {
             interactions,
-            places,
+            nodes,
         };
         self.line.show(interactions, &seen);
     }
@@ -194,12 +194,12 @@ impl Watch for Watching<'_> {
 #[derive(Clone, Copy)]
 struct Seen {
     interactions: u64,
-    places: u64,
+    nodes: u64,
 }
 
 impl Tells for Seen {
     fn line(&self, alloc: Global, a_second: u64) -> Result<String, AllocError> {
-        reducing_line(alloc, self.interactions, a_second, self.places)
+        reducing_line(alloc, self.interactions, a_second, self.nodes)
     }
 }
 

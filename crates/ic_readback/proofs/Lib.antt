@@ -11,6 +11,7 @@ pub mod Shapes
 pub mod MendNets
 pub mod Parts
 pub mod Results
+pub mod Turned
 pub mod Heads
 pub mod Circles
 pub mod Quiets

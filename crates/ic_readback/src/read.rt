@@ -1,6 +1,6 @@
 //! Reading a net back.
 
-ghost use Rattle.std.specs.Prelude.{◌≡◌, ℕ, ◌+◌, ◌*◌, ◌++◌, length, IfOk};
+ghost use Rattle.std.specs.Prelude.{◌≡◌, ℕ, ◌+◌, ◌*◌, ◌++◌, length, reverse, IfOk};
 ghost use Rattle.ic_round.specs.Naming.{HasNames};
 ghost use Rattle.ic_reaching.specs.OneNet.{OneNet};
 ghost use Rattle.ic_machine.specs.Net.{pieces, Net as AnyNet};
@@ -19,7 +19,8 @@ use std::alloc::{AllocError, Global};
 use std::mem;
 
 /// Reads the net of a machine back into terms: those of its interface, then the sides of its pairs, and last an equation
-/// of a name with a term for each circle.
+/// of a name with a term for each circle. Of the pairs that were set aside the last comes first: a machine that is planned of
+/// these terms sets them aside in the same order, and goes on as this one would.
 pub fn read_back(alloc: Global, machine: Machine) -> Result<ReadBack, AllocError>
     ensures terms { IfOk result (λ r. r.terms ≡ length machine.interface) }
     ensures whole { IfOk result (λ r. (n : Numbers) → n.arities ≡ machine.arities
@@ -35,7 +36,8 @@ pub fn read_back(alloc: Global, machine: Machine) -> Result<ReadBack, AllocError
     ensures heads { IfOk result (λ r. (n : Numbers) → n.arities ≡ machine.arities
         → AreNetPieces n.arities machine.interface (pieces machine)
         → AreGiven n.given machine.interface (pieces machine)
-        → BeginAs n (machine.interface ++ (sides_of machine.pending ++ sides_of machine.aside))
+        → BeginAs n (machine.interface
+        ++ (sides_of machine.pending ++ sides_of (reverse machine.aside)))
         (forest (flat_words n r.tokens.items))) }
     ensures circles { IfOk result (λ r. (n : Numbers) → n.arities ≡ machine.arities → AreNumbers n
         → AreNetPieces n.arities machine.interface (pieces machine)
@@ -47,7 +49,8 @@ pub fn read_back(alloc: Global, machine: Machine) -> Result<ReadBack, AllocError
     ic_reaching::laws::a_name_step_leads_to_one_net();
     ic_reaching::laws::the_order_of_equations_is_no_matter();
     ic_reaching::laws::a_piece_is_put_for_its_name();
-    let parts = machine.into_parts();
+    let mut parts = machine.into_parts();
+    parts.aside.reverse();
     let written = read_parts(
         alloc,
         parts.places,

@@ -1,15 +1,11 @@
 pub mod Applying
-pub mod CellNodes
 pub mod FiringAt
-pub mod Found
 pub mod Gathers
 pub mod Interacting
 pub mod ListLemmas
-pub mod PassLists
 pub mod Placed
 pub mod PlacedWhole
 pub mod Putting
-pub mod Rebuilt
 pub mod SizeLists
 pub mod StandsAt
 pub mod StepLemmas

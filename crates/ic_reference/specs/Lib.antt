@@ -1,4 +1,3 @@
-pub mod Bindings
 pub mod Plans
 pub mod SingleSteps
 pub mod StepAnswers

@@ -1,7 +1,5 @@
 -- What only the contracts of private functions cite.
 pub mod Placing
-pub mod WaitingTerms
 pub mod Slots
 pub mod Orienting
 pub mod Replacing
-pub mod Underway

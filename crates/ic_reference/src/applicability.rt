@@ -67,7 +67,7 @@ fn occurs_outside(interface: &[Term], before: &[Equation], after: &[Equation], n
 }
 
 /// The applicable side of an equation between these others, the left one if both are.
-pub fn applicable_side(
+pub(crate) fn applicable_side(
     interface: &[Term],
     before: &[Equation],
     equation: &Equation,
@@ -98,7 +98,7 @@ pub fn applicable_side(
 }
 
 /// The side of an equation opposite to a side.
-pub fn other_side(equation: Equation, side: Side) -> Term
+pub(crate) fn other_side(equation: Equation, side: Side) -> Term
     ensures { tree result ≡ other_side (pair equation) side }
 {
     match side {

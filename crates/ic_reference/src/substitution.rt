@@ -56,7 +56,7 @@ fn put_in_equations(equations: &mut [Equation], name: u64, held: &mut Option<Ter
 }
 
 /// Puts a term for a name that occurs at most once, without copying it.
-pub fn substitute(interface: &mut [Term], equations: &mut [Equation], name: u64, term: Term)
+pub(crate) fn substitute(interface: &mut [Term], equations: &mut [Equation], name: u64, term: Term)
     requires { occurrences name (names_in (map tree interface.old) (map pair equations.old)) ≤ 1 }
     ensures interface { map tree interface.new
         ≡ map (subst name (tree term)) (map tree interface.old) }

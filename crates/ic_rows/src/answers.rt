@@ -12,16 +12,15 @@
 //! - `restore TERMS NEXT WORDS`, `new TERMS WORDS`: the configuration of words with so many terms in its interface.
 //!   `term_ends WORDS`: the places after the terms.
 //! - `interact PLACE SYSTEM`, `indirect PLACE SYSTEM`, `collect PLACE SYSTEM`: the text after a single step.
-//!   `bind CONFIGURATION`: what is bound where it settles, as equations. `gathered RESULTS`: what gathering refuses.
-//! - `alike ROUNDS SYSTEM`: the text after at most so many rounds, by terms and by words the same. Before each round
-//!   all bodies of settling, and the tests of what is quiet, agree.
+//!   `gathered RESULTS`: what gathering refuses.
+//! - `alike ROUNDS SYSTEM`: the text after at most so many rounds, by terms and by words the same.
 //! - `memory`, `file`, `opens`, `laws`: of disks, as `disks` says.
 
 use crate::disks::of_disks;
 use crate::engines::alike;
 use crate::flat::{are_over, are_same, words};
 use crate::gathering::gathered;
-use crate::steps::{bindings, step};
+use crate::steps::step;
 use crate::task::task;
 use crate::values::{fault_line, found, numbered, paired, restored};
 use crate::words::{ends, made, number_first};
@@ -40,7 +39,6 @@ impl Answers for Kinds<'_> {
         match row.kind {
             "task" => task(alloc, row.text),
             "words" => words(alloc, row.text),
-            "bind" => bindings(alloc, row.text),
             "term_ends" => ends(alloc, row.text),
             "gathered" => gathered(alloc, row.text),
             "paired" | "same" | "over" => of_two(alloc, row),

@@ -1,11 +1,9 @@
-//! Single steps, and what settling binds.
+//! Single steps.
 
-use crate::flat::config_of;
 use ic_notation::{Trouble, printed, system_of};
-use ic_reference::{bind, collect_at, indirect_at, interact_at};
+use ic_reference::{collect_at, indirect_at, interact_at};
 use ic_rules::RuleSet;
-use ic_term::{Config, Equation, Symbols, Term, over};
-use ic_text::print_config;
+use ic_term::{Config, over};
 use std::alloc::Global;
 
 /// The text after a single step at a place, or why there is none.
@@ -33,26 +31,4 @@ fn line_of_step(
         Ok(after) => printed(alloc, rules, &after),
         Err(fault) => Ok(format!(in alloc; "{fault:?}")?.into_bytes()),
     }
-}
-
-/// What a configuration binds: each name and the term that is put for it, as an equation.
-pub fn bindings(alloc: Global, text: &str) -> Result<Vec<u8>, Trouble> {
-    let (symbols, config) = config_of(alloc, text)?;
-    text_over(alloc, &symbols, &bound_in(alloc, &config)?)
-}
-
-fn text_over(alloc: Global, symbols: &Symbols, config: &Config) -> Result<Vec<u8>, Trouble> {
-    if !over(symbols, config) {
-        return Err(Trouble("not over the symbols"));
-    }
-    Ok(print_config(alloc, symbols, config)?)
-}
-
-fn bound_in(alloc: Global, config: &Config) -> Result<Config, Trouble> {
-    let mut equations = Vec::new(alloc);
-    for (name, right) in bind(alloc, config)? {
-        let left = Term::Name(name);
-        equations.push(Equation { left, right })?;
-    }
-    Ok(Config::new(alloc, Vec::new(alloc), equations)?)
 }

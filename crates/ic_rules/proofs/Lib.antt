@@ -1,5 +1,6 @@
 pub mod NameLemmas
 pub mod RenamingLemmas
+pub mod FirstNames
 pub mod RuleLemmas
 pub mod FitLemmas
 pub mod RuleSetLemmas

@@ -2,9 +2,11 @@
 use Rattle.std.proofs.Common.{◌≡◌, ℕ, zero, suc, ◌+◌, ◌<◌, ◌==◌, Bool, true, false, List, [], ◌∷◌, ◌++◌, ◌&&◌, ◌||◌, Option, None, Some, length, map, get_or, drop, take, cond, is_some, sum_by, nat_le, refl, sym, ap, ◌∙◌, arith, drop-cons, add-one}
 use Rattle.std.proofs.lemmas.List.{take_more, map-append, length-map, length-take-le}
 use Rattle.std.specs.Cmp.{unsigned_Decides}
-use Rattle.std.specs.HashMap.{HashMap, get}
-use Rattle.std.specs.declared.hash.FoldHasher.{FoldHasher}
-use Rattle.std.specs.declared.hash.BuildHasherDefault.{BuildHasherDefault}
+use Rattle.std.specs.BTreeMap.{BTreeMap, get, is_at}
+use Rattle.std.specs.declared.cmp.Ordering.{Ordering}
+use Rattle.std.specs.declared.cmp.Ordering.TheVariants.{Less, Equal, Greater}
+use Rattle.std.specs.Ordering.{nat_cmp, ordering_then, is_eq}
+use Rattle.std.proofs.lemmas.Bool.Decides.{nat_tests}
 use Rattle.std.specs.List.{position_from, list_any, list_all, flat_map, AllByRecursion}
 use Rattle.ic_term.specs.declared.term.Cell.{Cell}
 use Rattle.ic_rules.specs.declared.rule_set.SymbolPair.{SymbolPair}
@@ -16,11 +18,23 @@ use Rattle.ic_rules.specs.Rule.{Rule, stands_for, same_pair, agents, agents_of, 
 use Rattle.ic_rules.specs.RuleSet.{repeated_after, first_repeated, first_unfit, unfit_among, are_few, IsRuleSet}
 use Rattle.std.proofs.lemmas.List.Sums.{sum_by-cons}
 use Rattle.ic_rules.specs.Written.{written}
-use Rattle.ic_rules.specs.inner.Places.{ArePlaces, pair_eq}
+use Rattle.ic_rules.specs.inner.Places.{ArePlaces, pair_cmp}
 use Rattle.ic_rules.specs.lemmas.FindLaws.{any_of_two}
 
 abbrev pub Places : Type 0
-Places = HashMap SymbolPair ℕ (BuildHasherDefault FoldHasher)
+Places = BTreeMap SymbolPair ℕ
+
+same_number : (m n : ℕ) → is_eq (nat_cmp m n) ≡ (m == n)
+same_number m n = grind (arith, nat_tests)
+
+then_eq : (o p : Ordering) → is_eq (ordering_then o p) ≡ (is_eq o && is_eq p)
+then_eq Less p = refl
+then_eq Equal p = refl
+then_eq Greater p = refl
+
+-- a map's test of a pair is equality of both symbols
+pub pair_test : (p q : SymbolPair) → is_at (pair_cmp p) q ≡ (p.first == q.first && p.second == q.second)
+pair_test p q = then_eq (nat_cmp p.first q.first) (nat_cmp p.second q.second) ∙ (λ i. same_number p.first q.first i && same_number p.second q.second i)
 
 -- what the first finds, or else the second
 abbrev pub first_or : Option ℕ → Option ℕ → Option ℕ
@@ -85,15 +99,15 @@ repeated_later rs i d within new = rw (drop_written rs i d within, new, take_wri
 
 -- whether the pair of a rule is among those of others, by the map of their places
 pub pair_there : (m : Places) (earlier : List Rule) (r : Rule) → ArePlaces m earlier
-    → list_any (same_pair r) earlier ≡ (is_some (get pair_eq m (record { first = r.left; second = r.right })) || is_some (get pair_eq m (record { first = r.right; second = r.left })))
+    → list_any (same_pair r) earlier ≡ (is_some (get pair_cmp m (record { first = r.left; second = r.right })) || is_some (get pair_cmp m (record { first = r.right; second = r.left })))
 pair_there m earlier r are =
     any_of_two (stands_for r.left r.right) (stands_for r.right r.left) 0 earlier
     ∙ (λ j. is_some (sym (are.each (record { first = r.left; second = r.right })) j) || is_some (sym (are.each (record { first = r.right; second = r.left })) j))
 
 -- the places once a rule is added whose symbols have none
 pub places_next : (m n : Places) (rs : List (Cell × Cell)) (i : ℕ) (d : Cell × Cell) → i < length rs → ArePlaces m (map written (take i rs))
-    → get pair_eq m (record { first = (written (get_or rs i d)).left; second = (written (get_or rs i d)).right }) ≡ None
-    → ((q : SymbolPair) → get pair_eq n q ≡ cond ((written (get_or rs i d)).left == q.first && (written (get_or rs i d)).right == q.second) (Some i) (get pair_eq m q))
+    → get pair_cmp m (record { first = (written (get_or rs i d)).left; second = (written (get_or rs i d)).right }) ≡ None
+    → ((q : SymbolPair) → get pair_cmp n q ≡ cond ((written (get_or rs i d)).left == q.first && (written (get_or rs i d)).right == q.second) (Some i) (get pair_cmp m q))
     → ArePlaces n (map written (take (i + 1) rs))
 places_next m n rs i d within are none put = record { each = λ q. put q ∙ at q ((written (get_or rs i d)).left == q.first && (written (get_or rs i d)).right == q.second) refl ∙ sym (grown q) }
   where
@@ -105,7 +119,7 @@ places_next m n rs i d within are none put = record { each = λ q. put q ∙ at 
         (omega (arith, length_written rs i within))
 
     at : (q : SymbolPair) (b : Bool) → ((written (get_or rs i d)).left == q.first && (written (get_or rs i d)).right == q.second) ≡ b
-        → cond ((written (get_or rs i d)).left == q.first && (written (get_or rs i d)).right == q.second) (Some i) (get pair_eq m q)
+        → cond ((written (get_or rs i d)).left == q.first && (written (get_or rs i d)).right == q.second) (Some i) (get pair_cmp m q)
         ≡ first_or (position_from (stands_for q.first q.second) 0 (map written (take i rs))) (cond ((written (get_or rs i d)).left == q.first && (written (get_or rs i d)).right == q.second) (Some i) None)
     at q true is =
         let same = and_parts (written (get_or rs i d)).left q.first (written (get_or rs i d)).right q.second is in

@@ -5,6 +5,7 @@
 //! definitions alone.
 #![tactic(auto)]
 
+mod firsts;
 mod fit;
 mod job_name;
 pub mod laws;

@@ -11,8 +11,8 @@ ghost use Rattle.ic_rules.specs.Renaming.{renamed, first_occurrences, number_amo
 ghost use Rattle.ic_rules.specs.Rule.{IsNumbered};
 ghost use Rattle.ic_rules.specs.Written.{written};
 
+use crate::firsts::Firsts;
 use ic_term::{Cell, Term, append_names};
-use indexmap::IndexSet;
 use std::alloc::{AllocError, Global};
 use std::collections::BTreeMap;
 
@@ -55,12 +55,12 @@ fn are_counted_up(names: &[u64]) -> bool
 }
 
 /// The names of a list in the order in which they first occur.
-pub(crate) fn first_occurrences(alloc: Global, names: &[u64]) -> Result<IndexSet<u64>, AllocError>
-    ensures { IfOk result (λ firsts. firsts.keys ≡ first_occurrences names.now) }
+pub(crate) fn first_occurrences(alloc: Global, names: &[u64]) -> Result<Firsts, AllocError>
+    ensures { IfOk result (λ firsts. firsts ≡ first_occurrences names.now) }
 {
-    let mut firsts = IndexSet::new(alloc);
+    let mut firsts = Firsts::new(alloc);
     for name in names {
-        firsts.insert(*name)?;
+        firsts.add(*name)?;
     }
     Ok(firsts)
 }
@@ -95,11 +95,11 @@ fn counts_of(alloc: Global, names: &[u64]) -> Result<BTreeMap<u64, usize>, Alloc
 pub(crate) fn number_terms(
     alloc: Global,
     terms: &[Term],
-    firsts: &IndexSet<u64>,
+    firsts: &Firsts,
 ) -> Result<Vec<Term>, AllocError>
     ensures { IfOk result
         (λ out. map tree out.items
-        ≡ map (renamed (number_among firsts.now.keys)) (map tree terms.now)) }
+        ≡ map (renamed (number_among firsts.now)) (map tree terms.now)) }
 {
     let mut numbered = Vec::with_capacity(alloc, terms.len())?;
     for term in terms {
@@ -109,15 +109,12 @@ pub(crate) fn number_terms(
 }
 
 #[cycle(number)]
-fn number_term(alloc: Global, term: &Term, firsts: &IndexSet<u64>) -> Result<Term, AllocError>
+fn number_term(alloc: Global, term: &Term, firsts: &Firsts) -> Result<Term, AllocError>
     ensures { IfOk result
-        (λ out. tree out ≡ renamed (number_among firsts.now.keys) (tree term.now)) }
+        (λ out. tree out ≡ renamed (number_among firsts.now) (tree term.now)) }
 {
     match term {
-        Term::Name(name) => {
-            let number = firsts.get_index_of(name).unwrap_or(firsts.len());
-            Ok(Term::Name(number as u64))
-        }
+        Term::Name(name) => Ok(Term::Name(firsts.number(*name) as u64)),
         Term::Agent(cell) => {
             let numbered = number_cell(alloc, cell, firsts)?;
             Ok(Term::Agent(Box::new(alloc, numbered)?))
@@ -126,9 +123,9 @@ fn number_term(alloc: Global, term: &Term, firsts: &IndexSet<u64>) -> Result<Ter
 }
 
 #[cycle(number)]
-fn number_cell(alloc: Global, cell: &Cell, firsts: &IndexSet<u64>) -> Result<Cell, AllocError>
+fn number_cell(alloc: Global, cell: &Cell, firsts: &Firsts) -> Result<Cell, AllocError>
     ensures { IfOk result
-        (λ out. cell_tree out ≡ renamed (number_among firsts.now.keys) (cell_tree cell.now)) }
+        (λ out. cell_tree out ≡ renamed (number_among firsts.now) (cell_tree cell.now)) }
 {
     let mut args = Vec::with_capacity(alloc, cell.args.len())?;
     for term in &cell.args {

@@ -7,9 +7,9 @@ ghost use Rattle.ic_term.specs.Term.{tree};
 ghost use Rattle.ic_rules.specs.Renaming.{are_paired, renamed, number_among};
 ghost use Rattle.ic_rules.specs.inner.Arguments.{firsts_of, is_own_swap};
 
+use crate::firsts::Firsts;
 use crate::renaming::{first_occurrences, names_of, number_terms};
 use ic_term::{Cell, Term, same_terms};
-use indexmap::IndexSet;
 use std::alloc::{AllocError, Global};
 use std::marker::Model;
 
@@ -157,15 +157,15 @@ fn number_by(
     alloc: Global,
     left: &[Term],
     right: &[Term],
-    firsts: &IndexSet<u64>,
+    firsts: &Firsts,
 ) -> Result<Arguments, AllocError>
     ensures left { IfOk result
         (λ n. map tree n.left.items
-        ≡ map (renamed (number_among firsts.now.keys)) (map tree left.now)) }
+        ≡ map (renamed (number_among firsts.now)) (map tree left.now)) }
     ensures right { IfOk result
         (λ n. map tree n.right.items
-        ≡ map (renamed (number_among firsts.now.keys)) (map tree right.now)) }
-    ensures names { IfOk result (λ n. n.names ≡ length firsts.now.keys) }
+        ≡ map (renamed (number_among firsts.now)) (map tree right.now)) }
+    ensures names { IfOk result (λ n. n.names ≡ length firsts.now) }
 {
     Ok(Arguments {
         left: number_terms(alloc, left, firsts)?,

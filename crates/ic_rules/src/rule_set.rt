@@ -9,8 +9,8 @@ ghost use Rattle.ic_rules.specs.RuleFault.{Answers};
 ghost use Rattle.ic_rules.specs.RuleSet.{built, are_few, IsRuleSet, first_uncounted, first_repeated, first_lopsided};
 ghost use Rattle.ic_rules.specs.inner.RuleFault.{IsTwice, IsLopsided};
 ghost use Rattle.ic_rules.specs.Written.{written};
-ghost use Rattle.ic_rules.specs.inner.Places.{ArePlaces, pair_eq};
-ghost use Rattle.std.specs.HashMap.{get};
+ghost use Rattle.ic_rules.specs.inner.Places.{ArePlaces, pair_cmp};
+ghost use Rattle.std.specs.BTreeMap.{get};
 ghost use Rattle.ic_rules.specs.declared.rule_set.RuleFault.TheVariants.{Memory};
 
 use crate::fit::first_unfit;
@@ -19,7 +19,7 @@ use crate::renaming::{are_paired, names_of};
 use crate::rule::Rule;
 use ic_term::{Cell, MAX_SYMBOLS, Symbols, Term, nodes_of_terms};
 use std::alloc::{AllocError, AllocFailed, Global};
-use std::collections::HashMap;
+use std::collections::BTreeMap;
 use std::marker::Model;
 
 /// Why rules make no rule set, in the order in which it is tried. A rule is named by its place from 0.
@@ -56,7 +56,7 @@ impl<T: Drop> From<AllocFailed<T>> for RuleFault {
 }
 
 /// Two symbols by number, in this order.
-#[derive(Clone, Copy, Debug, PartialEq, Eq, Hash)]
+#[derive(Clone, Copy, Debug, PartialEq, Eq, PartialOrd, Ord)]
 struct SymbolPair {
     first: u32,
     second: u32,
@@ -67,12 +67,12 @@ struct SymbolPair {
 pub struct RuleSet {
     symbols: Symbols,
     rules: Vec<Rule>,
-    places: HashMap<SymbolPair, usize>,
+    places: BTreeMap<SymbolPair, usize>,
 }
 
 impl Model for RuleSet {
     ghost use Rattle.std.specs.Prelude.{◌≡◌, ◌&&◌, ◌==◌};
-    ghost use Rattle.std.specs.HashMap.{get};
+    ghost use Rattle.std.specs.BTreeMap.{get};
     ghost use Rattle.ic_rules.specs.RuleSet.{Rules, IsRuleSet};
     ghost use Rattle.ic_rules.specs.lemmas.Codings.{coded_rules};
 
@@ -180,7 +180,7 @@ fn prepared(
     alloc: Global,
     symbols: &Symbols,
     rules: &[(Cell, Cell)],
-) -> Result<(Vec<Rule>, HashMap<SymbolPair, usize>), RuleFault>
+) -> Result<(Vec<Rule>, BTreeMap<SymbolPair, usize>), RuleFault>
     ensures built { IfOk result (λ parts. Ok (record { symbols = symbols.now; rules = parts.0.items })
         ≡ built symbols.now (map written rules.now)) }
     ensures sound { IfOk result
@@ -257,13 +257,16 @@ fn first_uncounted(alloc: Global, rules: &[(Cell, Cell)]) -> Result<Option<u32>,
 }
 
 /// The place of each rule by its symbols, or `Twice` for the first whose unordered pair an earlier rule has.
-fn places_of(alloc: Global, rules: &[(Cell, Cell)]) -> Result<HashMap<SymbolPair, usize>, RuleFault>
+fn places_of(
+    alloc: Global,
+    rules: &[(Cell, Cell)],
+) -> Result<BTreeMap<SymbolPair, usize>, RuleFault>
     requires { length rules.now ≤ MAX_WIDE_RULES }
     ensures places { IfOk result (λ places. ArePlaces places (map written rules.now)) }
     ensures single { OnOk result (first_repeated (map written rules.now) ≡ None) }
     ensures twice { IfErr result (IsTwice (map written rules.now)) }
 {
-    let mut places = HashMap::new(alloc);
+    let mut places = BTreeMap::new(alloc);
     for (i, (left, right)) in rules.iter().enumerate() {
         let pair = SymbolPair {
             first: left.sym,
@@ -278,10 +281,10 @@ fn places_of(alloc: Global, rules: &[(Cell, Cell)]) -> Result<HashMap<SymbolPair
 }
 
 /// Whether there is a place for these symbols, in this order or the other.
-fn has_pair(places: &HashMap<SymbolPair, usize>, pair: SymbolPair) -> bool
+fn has_pair(places: &BTreeMap<SymbolPair, usize>, pair: SymbolPair) -> bool
     ensures { result
-        ≡ (is_some (get pair_eq places.now pair)
-        || is_some (get pair_eq places.now (record { first = pair.second; second = pair.first }))) }
+        ≡ (is_some (get pair_cmp places.now pair)
+        || is_some (get pair_cmp places.now (record { first = pair.second; second = pair.first }))) }
 {
     let turned = SymbolPair {
         first: pair.second,

@@ -16,7 +16,8 @@ use Rattle.ic_book.specs.declared.fault.BookFault.{BookFault}
 use Rattle.ic_book.specs.declared.fault.BookFault.TheVariants.{Broken, LogFull, Worn, Memory, Device}
 use Rattle.ic_book.specs.Book.{disk_of, start_of, log_of, table_of, kept_of, is_broken}
 use Rattle.ic_book.specs.Calls.{BreaksOrStays, KeepsAll, TellsWorn}
-use Rattle.ic_book.specs.Kept.{IsHistory, IsOnDisk, table_kept}
+use Rattle.ic_book.specs.Kept.{IsHistory, IsOnDisk}
+use Rattle.ic_book.specs.Left.{table_kept}
 use Rattle.ic_book.specs.Moves.{closes, keep_move}
 use Rattle.ic_book.specs.Server.{Closes, Step, down, up}
 use Rattle.ic_attend.specs.declared.fault.AttendFault.{AttendFault}
@@ -34,7 +35,7 @@ keeps_same (Some xs) = refl
 pub says_why : {D : Type 0} {ghosts : Ghosts D} (disk : D) (scripts : List (List Command)) (runners turns workers : ℕ) (left : D) (fault : AttendFault D ghosts)
     → left ≡ disk_left fault
     → IfUnopened (Err fault) (IsUnopened ghosts disk) → IfUnbegun (Err fault) (IsAsOpened disk)
-    → IfStopped (Err fault) (IsStopped ghosts disk scripts runners workers) → IfTorn (Err fault) (IsTorn ghosts disk scripts runners turns workers)
+    → IfStopped (Err fault) (IsStopped ghosts disk scripts runners turns workers) → IfTorn (Err fault) (IsTorn ghosts disk scripts runners turns workers)
     → SaysWhy ghosts disk scripts runners turns workers left (fault_of_attendance fault)
 says_why disk scripts runners turns workers left (attending.Open fault) is unopened unbegun stopped torn = (fault, refl, unopened, is)
 says_why disk scripts runners turns workers left (attending.NoThread a) is unopened unbegun stopped torn = (a, stopped, is)

@@ -19,7 +19,7 @@ client_fault run = option_map Book run.end
 -- the fault by which a runner ended, if it did
 abbrev pub runner_fault : RunnerEnd → Option ScriptsFault
 runner_fault runner.Idle = None
-runner_fault runner.Turns = None
+runner_fault (runner.Turns taken) = None
 runner_fault (runner.Book fault) = Some (Book fault)
 runner_fault (runner.Pool fault) = Some (Pool fault)
 

@@ -24,7 +24,7 @@ SaysWhy {D = D} ghosts disk scripts runners turns workers left (Open cause) =
     (fault : OpenFault D) × (fault.cause ≡ cause) × IsUnopened ghosts disk fault
     × (left ≡ fault.disk)
 SaysWhy {D = D} ghosts disk scripts runners turns workers left NoThread =
-    (a : Attended D ghosts) × IsStopped ghosts disk scripts runners workers a
+    (a : Attended D ghosts) × IsStopped ghosts disk scripts runners turns workers a
     × (left ≡ disk_of a.book)
 SaysWhy {D = D} ghosts disk scripts runners turns workers left Torn =
     (a : Attended D ghosts) × IsTorn ghosts disk scripts runners turns workers a

@@ -58,7 +58,7 @@ fn runner_fault(end: &RunnerEnd) -> Option<ScriptsFault>
     ensures { result ≡ runner_fault end.now }
 {
     match end {
-        RunnerEnd::Idle | RunnerEnd::Turns => None,
+        RunnerEnd::Idle | RunnerEnd::Turns(_) => None,
         RunnerEnd::Book(fault) => Some(ScriptsFault::Book(*fault)),
         RunnerEnd::Pool(fault) => Some(ScriptsFault::Pool(*fault)),
     }

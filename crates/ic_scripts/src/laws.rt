@@ -60,7 +60,7 @@ pub fn the_first_fault_is_told()
         → AllByRecursion (λ run. run.end ≡ None) runs
         → AllByRecursion (λ end. runner_fault end ≡ None) ends → IsOk kept
         → IsFirstOf (faults_of runs ends kept) told → IsOk told }
-    ensures runners { map runner_fault (runner.Idle ∷ runner.Turns ∷ runner.Book Device ∷ [])
+    ensures runners { map runner_fault (runner.Idle ∷ runner.Turns 1 ∷ runner.Book Device ∷ [])
         ≡ None ∷ None ∷ Some (Book Device) ∷ [] }
 {}
 

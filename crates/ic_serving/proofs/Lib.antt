@@ -5,6 +5,9 @@ pub mod PageLemmas
 pub mod LineLemmas
 pub mod WriteLemmas
 pub mod ServeLemmas
+pub mod TakeLemmas
+pub mod GroupLemmas
+pub mod NextLemmas
 pub mod TurnLemmas
 pub mod StopLemmas
 pub mod CallLemmas

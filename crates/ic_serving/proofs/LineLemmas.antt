@@ -8,7 +8,7 @@ use Rattle.ic_jobs.specs.declared.event.Entry.{Entry}
 use Rattle.ic_jobs.specs.declared.reply.Reply.{Reply}
 use Rattle.ic_jobs.specs.Events.{Outcome, apply, outcome}
 use Rattle.ic_jobs.specs.History.{table_after, replay}
-use Rattle.ic_book.specs.Kept.{table_kept}
+use Rattle.ic_book.specs.Left.{table_kept}
 use Rattle.ic_book.specs.declared.fault.BookFault.{BookFault}
 use Rattle.ic_book.specs.declared.fault.BookFault.TheVariants.{Device}
 use Rattle.ic_serving.specs.Parts.{IsPart, IsKeptWithin}

@@ -47,7 +47,7 @@ module _ {D : Type 0} {ghosts : Ghosts D} where
     senders = more.senders;
   }
 
-  goes_then : (xs ys : List Event) (old mid new : Book D ghosts) → GoesOn xs old mid → GoesOn ys mid new → GoesOn (xs ++ ys) old new
+  pub goes_then : (xs ys : List Event) (old mid new : Book D ghosts) → GoesOn xs old mid → GoesOn ys mid new → GoesOn (xs ++ ys) old new
   goes_then xs ys old mid new first more = record {
     entries = first.entries ++ more.entries;
     start = more.start ∙ first.start;
@@ -78,7 +78,7 @@ module _ {D : Type 0} {ghosts : Ghosts D} where
       (record { entries = command_entry 0 c reply ∷ []; start = start; log = log; events = refl; senders = (refl, tt) })
 
   -- how long the log is after these events
-  long_after : (es : List Event) (old new : Book D ghosts) → GoesOn es old new → length (log_of new) ≡ length (log_of old) + length es
+  pub long_after : (es : List Event) (old new : Book D ghosts) → GoesOn es old new → length (log_of new) ≡ length (log_of old) + length es
   long_after es old new goes =
       let grown = ap length goes.log ∙ length-append (log_of old) goes.entries in
       let many : length goes.entries ≡ length es = sym (length-map goes.entries (λ (e : Entry). e.event)) ∙ ap length goes.events in

@@ -9,7 +9,7 @@ use Rattle.ic_jobs.specs.declared.event.Event.{Event}
 use Rattle.ic_jobs.specs.declared.event.Event.TheVariants.{Round}
 use Rattle.ic_jobs.specs.declared.event.Entry.{Entry}
 use Rattle.ic_jobs.specs.History.{table_after}
-use Rattle.ic_book.specs.Kept.{table_kept}
+use Rattle.ic_book.specs.Left.{table_kept}
 use Rattle.ic_jobs.specs.Landing.{due}
 use Rattle.ic_lines.specs.Turns.{after_events, round_and, turns}
 use Rattle.ic_serving.specs.Parts.{IsPart, IsKeptWithin}

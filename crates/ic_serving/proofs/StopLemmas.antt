@@ -1,6 +1,7 @@
 -- What a crash in the midst of a call leaves, call by call.
-use Rattle.std.proofs.Common.{true, false, Result, Ok, Err, ◌≡◌, ◌≢◌, ◌⊎◌, inl, inr, ⊎_elim, ℕ, ◌≤◌, List, [], ◌∷◌, ◌++◌, Option, length, refl, sym, ap, subst, ◌∙◌, arith, append-nil}
-use Rattle.std.specs.Prelude.{IsTrue, IfErr}
+use Rattle.std.proofs.Common.{true, false, Result, Ok, Err, ◌≡◌, ◌≢◌, ◌⊎◌, inl, inr, ⊎_elim, ℕ, ◌≤◌, List, [], ◌∷◌, ◌++◌, Option, length, refl, sym, ap, subst, ◌∙◌, arith, append-nil, append_assoc}
+use Rattle.std.specs.Prelude.{IsTrue, IfErr, flat_map}
+use Rattle.std.specs.List.{AllByRecursion}
 use Rattle.std.specs.Result.{IsErrAnd}
 use Rattle.std.specs.Io.KnownBytes.{Keeps}
 use Rattle.std.proofs.lemmas.Bool.{cases_lt}
@@ -20,34 +21,35 @@ use Rattle.ic_slots.specs.declared.keeper.Keeper.{Keeper}
 use Rattle.ic_slots.specs.Held.{HoldsTable, HoldsEitherTable}
 use Rattle.ic_slots.specs.Keeper as keeper_parts
 use Rattle.ic_commands.specs.LineText.{ReadsLine}
-use Rattle.ic_lines.specs.declared.buffer.LineFault.{LineFault}
-use Rattle.ic_lines.specs.declared.buffer.LineFault.TheVariants as line_fault
 use Rattle.ic_lines.specs.Turns.{after_events, turns}
 use Rattle.ic_lines.specs.Answers.{Reading, events}
 use Rattle.ic_lines.specs.Taking.{HasNoLine}
 use Rattle.ic_book.specs.declared.book.Book.{Book}
 use Rattle.ic_book.specs.Book.{is_broken, start_of, log_of, table_of, kept_of, keeper_of, disk_of, IsUnchanged}
 use Rattle.ic_book.specs.Entries.{AddsCommand, command_entry}
-use Rattle.ic_book.specs.Kept.{HoldsKeptOrAll, table_kept}
+use Rattle.ic_book.specs.Left.{HoldsKeptOrAll, table_kept}
 use Rattle.ic_serving.specs.Booked.{last_kept, IsAllKept, StaysPut}
-use Rattle.ic_serving.specs.Parts.{IsKeptWithin, IsInLine}
+use Rattle.ic_serving.specs.Parts.{IsKeptWithin, IsInFew}
 use Rattle.ic_serving.specs.Stopped.{HoldsOne, IsReached, MayStand}
 use Rattle.ic_book.specs.ByCalls.{IsByCalls}
 use Rattle.ic_serving.specs.Moments.{FaultLeaves, Leaves, IsKeptOrNow, IsKeptInLine}
 use Rattle.ic_serving.specs.declared.fault.ServeFault.{ServeFault}
-use Rattle.ic_serving.specs.declared.fault.ServeFault.TheVariants.{Read, Write, LongLine, Memory}
-use Rattle.ic_serving.specs.Faults.{ComesInLine, MayCome, CountsServe, fault_of_line}
-use Rattle.ic_serving.specs.Served.{OfLines, MayBeServed, SaysOf, IsEnded, IsCut}
+use Rattle.ic_serving.specs.declared.fault.ServeFault.TheVariants.{Read, Write, TooManyLines, Book as by_book, Pool, LongLine, Memory}
+use Rattle.ic_text.specs.declared.limits.TheConstants.{MAX_TEXT}
+use Rattle.ic_serving.specs.Faults.{ComesInLine, MayCome, CountsServe}
+use Rattle.ic_serving.specs.Served.{OfLines, SaysOf, IsEnded, IsCut}
 use Rattle.ic_serving.specs.Serving.{IsServing}
-use Rattle.ic_serving.specs.InTurn.{AreAnsweredInTurn}
+use Rattle.ic_serving.specs.Answered.{AreAnsweredAtOnce}
+use Rattle.ic_serving.specs.InTurn.{AreAnsweredInTurn, AreServedInTurn}
 use Rattle.ic_lines.specs.Serving.{IsServed}
-use Rattle.ic_serving.specs.inner.Progress.{AreFirst, AreToCome, IsUnderWay}
+use Rattle.ic_serving.specs.inner.Progress.{AreFirst, AreToCome, IsUnderWay, IsUntaken}
 use Rattle.ic_book.specs.lemmas.Chains.{by_calls_then}
 use Rattle.ic_serving.specs.lemmas.Leaving.{leaves_more, leaves_then, leaves_nothing}
 use Rattle.ic_serving.proofs.LineLemmas.{kept_after}
 use Rattle.ic_serving.proofs.RunLemmas.{InRun, run_begun}
-use Rattle.ic_serving.specs.lemmas.Reaching.{SomeWay, in_line, reached_now, reached_longer}
-use Rattle.ic_serving.proofs.ServeLemmas.{of_lines, none_ahead, over, ended_at, cut_before, left_first, may_come, counts_as}
+use Rattle.ic_serving.specs.lemmas.Reaching.{SomeWay, reached_now, reached_longer}
+use Rattle.ic_serving.proofs.TurnLemmas.{turns_more}
+use Rattle.ic_serving.proofs.ServeLemmas.{Joined, of_lines, none_ahead, over, ended_at, cut_before, few_first, few_reached, left_first, may_come, counts_as}
 
 -- ---- which tables
 
@@ -86,6 +88,17 @@ all_or_not m n = ⊎_elim
 may_longer : SomeWay → (all : Type 0) (kept t : List JobParts) (ls more : List (List ℕ)) (u : List JobParts) → MayStand all kept t ls u → MayStand all kept t (ls ++ more) u
 may_longer law all kept t ls more u (inl r) = inl (reached_longer law t ls more u r)
 may_longer law all kept t ls more u (inr put) = inr put
+
+-- ---- groups
+
+small_more : (most : ℕ) (groups : List (List (List ℕ))) (ls : List (List ℕ)) → AllByRecursion (λ (group : List (List ℕ)). length group ≤ most) groups → length ls ≤ most
+    → AllByRecursion (λ (group : List (List ℕ)). length group ≤ most) (groups ++ ls ∷ [])
+small_more most [] ls small here = (here, tt)
+small_more most (g ∷ gs) ls small here = (small.0, small_more most gs ls small.1 here)
+
+flat_more : (groups : List (List (List ℕ))) (ls : List (List ℕ)) → flat_map (λ (group : List (List ℕ)). group) groups ++ ls ≡ flat_map (λ (group : List (List ℕ)). group) (groups ++ ls ∷ [])
+flat_more [] ls = sym (append-nil ls)
+flat_more (g ∷ gs) ls = append_assoc g (flat_map (λ (group : List (List ℕ)). group) gs) ls ∙ ap (λ (xs : List (List ℕ)). g ++ xs) (flat_more gs ls)
 
 -- ---- calls
 
@@ -152,15 +165,35 @@ module _ {D : Type 0} {ghosts : Ghosts D} where
   abbrev pub LeavesServed : (first new : Book D ghosts) → List (List ℕ) → Type 0
   LeavesServed first new ls = Leaves first new (MayStand (IsAllKept first) (last_kept first) (table_of first) ls)
 
-  -- so many lines were served, and what a crash leaves since the first book
-  pub record Serves (text rest : Option (List ℕ)) (count : ℕ) (first book : Book D ghosts) (old new : Option (List ℕ)) : Type 0 where
-    pub way : IsUnderWay text rest count (table_of first) (table_of book) old new
+  -- groups of lines were answered in turn, each of at most so many
+  pub record InGroups (most : ℕ) (front : List (List ℕ)) (first book : Book D ghosts) : Type 0 where
+    pub groups : List (List (List ℕ))
+    pub parted : front ≡ flat_map (λ (group : List (List ℕ)). group) groups
+    pub small : AllByRecursion (λ (group : List (List ℕ)). length group ≤ most) groups
+    pub answered : AreAnsweredInTurn groups first book
+
+  pub groups_first : (most : ℕ) (book : Book D ghosts) → InGroups most [] book book
+  groups_first most book = record { groups = []; parted = refl; small = tt; answered = refl }
+
+  pub groups_more : (most : ℕ) (front ls : List (List ℕ)) (bytes : List ℕ) (first book new : Book D ghosts) → InGroups most front first book → length ls ≤ most
+      → AreAnsweredAtOnce ls bytes book new → InGroups most (front ++ ls) first new
+  groups_more most front ls bytes first book new g small is = record {
+    groups = g.groups ++ ls ∷ [];
+    parted = ap (λ (xs : List (List ℕ)). xs ++ ls) g.parted ∙ flat_more g.groups ls;
+    small = small_more most g.groups ls g.small small;
+    answered = turns_more g.groups ls bytes first book new g.answered is;
+  }
+
+  -- some lines were served, so many more may be, and what a crash leaves since the first book
+  pub record Serves (most : ℕ) (text rest : Option (List ℕ)) (count left : ℕ) (first book : Book D ghosts) (old new : Option (List ℕ)) : Type 0 where
+    pub way : IsUnderWay text rest left (table_of first) (table_of book) old new
+    pub steps : count ≤ length way.front
     pub kept : IsAllKept first → IsAllKept book
     pub counted : ghosts.failures (disk_of book) ≡ ghosts.failures (disk_of first)
     pub ready : is_broken first ≡ false → is_broken book ≡ false
     pub broken : is_broken first ≡ true → is_broken book ≡ true
     pub last : IsAllKept book ⊎ (last_kept book ≡ last_kept first)
-    pub turns : AreAnsweredInTurn way.front first book
+    pub turns : InGroups most way.front first book
     pub moments : LeavesServed first book way.front
 
   pub stops_first : SomeWay → (book : Book D ghosts)
@@ -172,64 +205,63 @@ module _ {D : Type 0} {ghosts : Ghosts D} where
       (all_or_not (kept_of book) (length (log_of book))))
       (inl (reached_now law (table_of book) []))
 
-  -- a table within the next line
-  may_stand : SomeWay → (first book : Book D ghosts) (front more : List (List ℕ)) (line answers : List ℕ)
-      → MayBeServed front → IsServed (table_of first) front answers (table_of book)
-      → (IsAllKept first → IsAllKept book) → IsAllKept book ⊎ (last_kept book ≡ last_kept first) → (IsAllKept book → last_kept book ≡ table_of book)
-      → (u : List JobParts) → IsKeptInLine (table_of book) (last_kept book) line u → MayStand (IsAllKept first) (last_kept first) (table_of first) (front ++ line ∷ more) u
-  may_stand law first book front more line answers within served stays last whole u is = ⊎_elim
-      (λ (same : u ≡ last_kept book). ⊎_elim
-      (λ (all : IsAllKept book). inl (at_table (same ∙ whole all)))
-      (λ (put : last_kept book ≡ last_kept first). ⊎_elim
-      (λ all. inl (at_table (same ∙ whole (stays all))))
-      (λ less. inr (less, same ∙ put))
-      (all_or_not (kept_of first) (length (log_of first))))
-      last)
-      (λ (there : IsInLine (table_of book) line u). inl (reached u there))
-      is
-    where
-      reached : (v : List JobParts) → IsInLine (table_of book) line v → IsReached (table_of first) (front ++ line ∷ more) v
-      reached v here = record {
-        front = front;
-        rest = line ∷ more;
-        answers = answers;
-        between = table_of book;
-        parted = refl;
-        within = within;
-        served = served;
-        in_line = here;
-      }
-
-      at_table : u ≡ table_of book → IsReached (table_of first) (front ++ line ∷ more) u
-      at_table same = subst (IsReached (table_of first) (front ++ line ∷ more)) (sym same) (reached (table_of book) (in_line law (table_of book) line))
-
   -- more lines come
   pub stops_longer : SomeWay → (first new : Book D ghosts) (front more : List (List ℕ)) → LeavesServed first new front → LeavesServed first new (front ++ more)
   stops_longer law first new front more run =
       leaves_more first new (MayStand (IsAllKept first) (last_kept first) (table_of first) front) (MayStand (IsAllKept first) (last_kept first) (table_of first) (front ++ more)) run
       (may_longer law (IsAllKept first) (last_kept first) (table_of first) front more)
 
-  pub stops_more : SomeWay → (text rest : Option (List ℕ)) (n : ℕ) (first book new : Book D ghosts) (old mid : Option (List ℕ)) (line : List ℕ) (more : List (List ℕ))
-      → (s : Serves text rest n first book old mid) → (IsAllKept book → last_kept book ≡ table_of book)
-      → Leaves book new (IsKeptInLine (table_of book) (last_kept book) line) → LeavesServed first new (s.way.front ++ line ∷ more)
-  stops_more law text rest n first book new old mid line more s whole step =
-      leaves_then first book new (MayStand (IsAllKept first) (last_kept first) (table_of first) (s.way.front ++ line ∷ more)) (IsKeptInLine (table_of book) (last_kept book) line)
-      (stops_longer law first book s.way.front (line ∷ more) s.moments)
-      step
-      (may_stand law first book s.way.front more line s.way.answered.answers s.way.answered.within s.way.answered.served s.kept s.last whole)
+  -- the table that was kept, or one within the next lines
+  abbrev pub IsKeptInFew : (most : ℕ) (book : Book D ghosts) → List (List ℕ) → List JobParts → Type 0
+  IsKeptInFew most book ls u = (u ≡ last_kept book) ⊎ IsInFew most (table_of book) ls u
+
+  pub stops_more : Joined → SomeWay → (most n : ℕ) (text rest : Option (List ℕ)) (count left : ℕ) (first book new : Book D ghosts) (old mid : Option (List ℕ)) (ls more : List (List ℕ))
+      → (s : Serves most text rest count left first book old mid) → 1 ≤ n → n ≤ left → AllByRecursion (λ line. length line ≤ MAX_TEXT) ls
+      → (IsAllKept book → last_kept book ≡ table_of book) → Leaves book new (IsKeptInFew n book ls) → LeavesServed first new (s.way.front ++ (ls ++ more))
+  stops_more joined law most n text rest count left first book new old mid ls more s one few short whole step =
+      leaves_then first book new (MayStand (IsAllKept first) (last_kept first) (table_of first) (s.way.front ++ (ls ++ more))) (IsKeptInFew n book ls)
+      (stops_longer law first book s.way.front (ls ++ more) s.moments)
+      step stands
+    where
+      within : (u : List JobParts) → IsInFew n (table_of book) ls u → IsReached (table_of first) (s.way.front ++ (ls ++ more)) u
+      within u r = few_reached joined n left (table_of first) (table_of book) u s.way.front ls more s.way.answered.answers law s.way.answered.within s.way.counted few short
+          s.way.answered.served r
+
+      at_table : (u : List JobParts) → u ≡ table_of book → MayStand (IsAllKept first) (last_kept first) (table_of first) (s.way.front ++ (ls ++ more)) u
+      at_table u same = inl (within u (few_first law n (table_of book) u ls one same))
+
+      stands : (u : List JobParts) → IsKeptInFew n book ls u → MayStand (IsAllKept first) (last_kept first) (table_of first) (s.way.front ++ (ls ++ more)) u
+      stands u (inr r) = inl (within u r)
+      stands u (inl same) = ⊎_elim
+          (λ (all : IsAllKept book). at_table u (same ∙ whole all))
+          (λ (put : last_kept book ≡ last_kept first). ⊎_elim
+          (λ all. at_table u (same ∙ whole (s.kept all)))
+          (λ less. inr (less, same ∙ put))
+          (all_or_not (kept_of first) (length (log_of first))))
+          s.last
+
+  pub same_lines : (front ls more : List (List ℕ)) (first new : Book D ghosts) → LeavesServed first new (front ++ (ls ++ more)) → LeavesServed first new ((front ++ ls) ++ more)
+  same_lines front ls more first new run = subst (λ (xs : List (List ℕ)). LeavesServed first new xs) (sym (append_assoc front ls more)) run
+
+  pub same_front : (front ls : List (List ℕ)) (first new : Book D ghosts) → LeavesServed first new (front ++ (ls ++ [])) → LeavesServed first new (front ++ ls)
+  same_front front ls first new run = subst (λ (xs : List (List ℕ)). LeavesServed first new (front ++ xs)) (append-nil ls) run
 
   -- ---- the end of a serving
 
+  in_turn : (most : ℕ) (front : List (List ℕ)) (first book new : Book D ghosts) → InGroups most front first book → IsByCalls book new → AreServedInTurn most front first new
+  in_turn most front first book new g after = record { groups = g.groups; parted = g.parted; small = g.small; between = book; answered = g.answered; after = after }
+
   -- all lines are answered
-  pub serving_over : {T : Type 0} (v : T) → SomeWay → (text rest : Option (List ℕ)) (n : ℕ) (first book : Book D ghosts) (old mid new : Option (List ℕ))
-      → Serves text rest n first book old mid → HasNoLine rest → Keeps mid new → IsByCalls book book → OfLines text (λ ls. IsServing {T = T} (Ok v) ls first book old new)
-  serving_over {T} v law text rest n first book old mid new s none kept idle =
-      of_lines text rest s.way.front [] (λ ls. IsServing {T = T} (Ok v) ls first book old new) s.way.first (none_ahead rest none) (record {
+  pub serving_over : {T : Type 0} (v : T) → SomeWay → (most : ℕ) (text rest : Option (List ℕ)) (count left : ℕ) (first book : Book D ghosts) (old mid new : Option (List ℕ))
+      → Serves most text rest count left first book old mid → HasNoLine rest → Keeps mid new → IsByCalls book book
+      → OfLines text (λ ls. IsServing {T = T} most (Ok v) ls first book old new)
+  serving_over {T} v law most text rest count left first book old mid new s none kept idle =
+      of_lines text rest s.way.front [] (λ ls. IsServing {T = T} most (Ok v) ls first book old new) s.way.first (none_ahead rest none) (record {
         front = s.way.front;
         rest = [];
         parted = refl;
         all = refl;
-        turns = record { between = book; answered = s.turns; after = idle };
+        turns = in_turn most s.way.front first book book s.turns idle;
         served = over s.way.front (table_of first) (table_of book) old mid new s.way.answered kept;
         kept = s.kept;
         ended = tt;
@@ -240,23 +272,23 @@ module _ {D : Type 0} {ghosts : Ghosts D} where
 
   -- a fault came after these lines, and before those that are to come
   pub serving_err : {T : Type 0} (r : Result T ServeFault) (fault : ServeFault) → IsErrAnd r (λ x. x ≡ fault)
-      → (text rest : Option (List ℕ)) (front more : List (List ℕ)) (first book new : Book D ghosts) (old now : Option (List ℕ))
+      → (most : ℕ) (text rest : Option (List ℕ)) (front more : List (List ℕ)) (first book new : Book D ghosts) (old now : Option (List ℕ))
       → AreFirst text front rest → AreToCome rest more
-      → (fault ≢ Write → IsEnded fault (IsAllKept first) front more (table_of first) (table_of new) (last_kept new) old now)
-      → (fault ≡ Write → IsCut front (table_of first) (table_of new) old now) → (fault ≡ Write → IsAllKept first → IsAllKept new)
-      → LeavesServed first new (front ++ more) → AreAnsweredInTurn front first book → IsByCalls book new → OfLines text (λ ls. IsServing r ls first new old now)
-  serving_err (Ok v) fault is text rest front more first book new old now begins coming ended cut kept run turns after = absurd is
-  serving_err {T} (Err e) fault is text rest front more first book new old now begins coming ended cut kept run turns after =
+      → (fault ≢ Write → IsEnded fault most (IsAllKept first) front more (table_of first) (table_of new) (last_kept new) old now)
+      → (fault ≡ Write → IsCut most front (table_of first) (table_of new) old now) → (fault ≡ Write → IsAllKept first → IsAllKept new)
+      → LeavesServed first new (front ++ more) → InGroups most front first book → IsByCalls book new → OfLines text (λ ls. IsServing most r ls first new old now)
+  serving_err (Ok v) fault is most text rest front more first book new old now begins coming ended cut kept run turns after = absurd is
+  serving_err {T} (Err e) fault is most text rest front more first book new old now begins coming ended cut kept run turns after =
       let same : e ≡ fault = is in
-      of_lines text rest front more (λ ls. IsServing {T = T} (Err e) ls first new old now) begins coming (record {
+      of_lines text rest front more (λ ls. IsServing {T = T} most (Err e) ls first new old now) begins coming (record {
         front = front;
         rest = more;
         parted = refl;
         all = tt;
-        turns = record { between = book; answered = turns; after = after };
+        turns = in_turn most front first book new turns after;
         served = tt;
         kept = tt;
-        ended = λ other. subst (λ f. IsEnded f (IsAllKept first) front more (table_of first) (table_of new) (last_kept new) old now) (sym same) (ended (λ write. other (same ∙ write)));
+        ended = λ other. subst (λ f. IsEnded f most (IsAllKept first) front more (table_of first) (table_of new) (last_kept new) old now) (sym same) (ended (λ write. other (same ∙ write)));
         cut = λ write. cut (let w : e ≡ Write = cc in sym same ∙ w);
         kept_at_cut = λ write. kept (let w : e ≡ Write = cc in sym same ∙ w);
         crash = run;
@@ -264,14 +296,15 @@ module _ {D : Type 0} {ghosts : Ghosts D} where
 
   -- where no line is taken
   pub serving_untaken : {T : Type 0} (r : Result T ServeFault) (fault : ServeFault) → IsErrAnd r (λ x. x ≡ fault) → SomeWay
-      → (text rest : Option (List ℕ)) (n : ℕ) (first book : Book D ghosts) (old mid new : Option (List ℕ)) (more : List (List ℕ))
-      → (s : Serves text rest n first book old mid) → Keeps mid new → AreToCome rest more → SaysOf fault (table_of book) (table_of book) s.way.front more → (IsAllKept book → last_kept book ≡ table_of book) → IsByCalls book book
-      → OfLines text (λ ls. IsServing r ls first book old new)
-  serving_untaken r fault is law text rest n first book old mid new more s kept coming says whole idle =
-      serving_err r fault is text rest s.way.front more first book book old new s.way.first coming
-      (λ other. ended_at fault (IsAllKept first) s.way.front more (table_of first) (table_of book) (table_of book) (last_kept book) old mid new s.way.answered kept says
-      (left_first law fault (table_of book) (table_of book) more refl) (λ all. left_first law fault (table_of book) (last_kept book) more (whole (s.kept all))))
-      (λ write. cut_before s.way.front (table_of first) (table_of book) old mid new s.way.answered kept)
+      → (most : ℕ) (text rest : Option (List ℕ)) (count left : ℕ) (first book : Book D ghosts) (old mid new : Option (List ℕ)) (more : List (List ℕ)) → 1 ≤ most
+      → (s : Serves most text rest count left first book old mid) → Keeps mid new → AreToCome rest more → SaysOf fault (table_of book) (table_of book) s.way.front more
+      → (IsAllKept book → last_kept book ≡ table_of book) → IsByCalls book book
+      → OfLines text (λ ls. IsServing most r ls first book old new)
+  serving_untaken r fault is law most text rest count left first book old mid new more one s kept coming says whole idle =
+      serving_err r fault is most text rest s.way.front more first book book old new s.way.first coming
+      (λ other. ended_at fault most (IsAllKept first) s.way.front more (table_of first) (table_of book) (table_of book) (last_kept book) old mid new s.way.answered kept says
+      (left_first law fault most (table_of book) (table_of book) more one refl) (λ all. left_first law fault most (table_of book) (last_kept book) more one (whole (s.kept all))))
+      (λ write. cut_before most s.way.front (table_of first) (table_of book) old mid new s.way.answered kept)
       (λ write. s.kept)
       (stops_longer law first book s.way.front more s.moments) s.turns idle
 
@@ -289,18 +322,22 @@ module _ {D : Type 0} {ghosts : Ghosts D} where
       rw same (record { causes = may_come fault left.causes; counted = counts; ready = λ whole. tt; breaks = λ whole. left.breaks (ready whole) })
 
   -- where no line is taken
-  pub fault_untaken : {T : Type 0} (r : Result T ServeFault) (e : LineFault) → IsErrAnd r (λ x. x ≡ fault_of_line e) → (first book : Book D ghosts)
+  pub fault_untaken : {T : Type 0} (r : Result T ServeFault) (f : ServeFault) (left : ℕ) (rest : Option (List ℕ)) → IsErrAnd r (λ x. x ≡ f) → IsUntaken left f rest → (first book : Book D ghosts)
       → ghosts.failures (disk_of book) ≡ ghosts.failures (disk_of first) → (is_broken first ≡ false → is_broken book ≡ false)
       → FaultLeaves MayCome r first book
-  fault_untaken (Ok v) e is first book counted ready = absurd is
-  fault_untaken (Err f) line_fault.Read is first book counted ready =
-      let same : f ≡ Read = is in rw same (record { causes = tt; counted = counted; ready = λ whole. tt; breaks = ready })
-  fault_untaken (Err f) line_fault.Write is first book counted ready =
-      let same : f ≡ Write = is in rw same (record { causes = tt; counted = counted; ready = λ whole. tt; breaks = ready })
-  fault_untaken (Err f) line_fault.LongLine is first book counted ready =
-      let same : f ≡ LongLine = is in rw same (record { causes = tt; counted = counted; ready = λ whole. tt; breaks = ready })
-  fault_untaken (Err f) line_fault.Memory is first book counted ready =
-      let same : f ≡ Memory = is in rw same (record { causes = tt; counted = counted; ready = λ whole. tt; breaks = ready })
+  fault_untaken (Ok v) f left rest is why first book counted ready = absurd is
+  fault_untaken (Err e) Read left rest is why first book counted ready =
+      let same : e ≡ Read = is in rw same (record { causes = tt; counted = counted; ready = λ whole. tt; breaks = ready })
+  fault_untaken (Err e) Write left rest is why first book counted ready =
+      let same : e ≡ Write = is in rw same (record { causes = tt; counted = counted; ready = λ whole. tt; breaks = ready })
+  fault_untaken (Err e) TooManyLines left rest is why first book counted ready =
+      let same : e ≡ TooManyLines = is in rw same (record { causes = tt; counted = counted; ready = λ whole. tt; breaks = ready })
+  fault_untaken (Err e) LongLine left rest is why first book counted ready =
+      let same : e ≡ LongLine = is in rw same (record { causes = tt; counted = counted; ready = λ whole. tt; breaks = ready })
+  fault_untaken (Err e) Memory left rest is why first book counted ready =
+      let same : e ≡ Memory = is in rw same (record { causes = tt; counted = counted; ready = λ whole. tt; breaks = ready })
+  fault_untaken (Err e) (by_book b) left rest is why first book counted ready = absurd why
+  fault_untaken (Err e) (Pool p) left rest is why first book counted ready = absurd why
 
   -- where an answer isn't written
   pub fault_unwritten : {T : Type 0} (r : Result T ServeFault) (fault : ServeFault) → IsErrAnd r (λ x. x ≡ fault) → fault ≡ Write → (first book : Book D ghosts)

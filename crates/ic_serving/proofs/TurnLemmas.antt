@@ -1,11 +1,11 @@
--- Lines that are answered in turn, and the last call that is made for each.
+-- Groups of lines that are answered in turn, and the last call that is made for each.
 use Rattle.std.proofs.Common.{ℕ, List, [], ◌∷◌, ◌++◌, refl, ap, subst, ◌∙◌}
 use Rattle.ic_disk.specs.declared.disk.Disk.{Ghosts}
 use Rattle.ic_book.specs.declared.book.Book.{Book}
 use Rattle.ic_book.specs.Moves.{Move}
 use Rattle.ic_book.specs.ByCalls.{IsByCalls}
 use Rattle.ic_book.specs.lemmas.Chains.{by_calls_then, then_moves}
-use Rattle.ic_serving.specs.Answered.{EndsWith, IsAnswered}
+use Rattle.ic_serving.specs.Answered.{AreAnsweredAtOnce, EndsWith}
 use Rattle.ic_serving.specs.InTurn.{AreAnsweredInTurn}
 
 module _ {D : Type 0} {ghosts : Ghosts D} where
@@ -17,8 +17,8 @@ module _ {D : Type 0} {ghosts : Ghosts D} where
     last = then_moves old mid new first ends.done ∙ ap (λ (ms : List Move). ms ++ first.moves) ends.last;
   }
 
-  -- one line more
-  pub turns_more : (front : List (List ℕ)) (line bytes : List ℕ) (first book new : Book D ghosts) → AreAnsweredInTurn front first book → IsAnswered line bytes book new
-      → AreAnsweredInTurn (front ++ line ∷ []) first new
-  turns_more [] line bytes first book new turns is = (new, bytes, subst (λ (b : Book D ghosts). IsAnswered line bytes b new) turns is, refl)
-  turns_more (l ∷ front) line bytes first book new turns is = (turns.0, turns.1, turns.2, turns_more front line bytes turns.0 book new turns.3 is)
+  -- one group more
+  pub turns_more : (groups : List (List (List ℕ))) (ls : List (List ℕ)) (bytes : List ℕ) (first book new : Book D ghosts) → AreAnsweredInTurn groups first book
+      → AreAnsweredAtOnce ls bytes book new → AreAnsweredInTurn (groups ++ ls ∷ []) first new
+  turns_more [] ls bytes first book new turns is = (new, bytes, subst (λ (b : Book D ghosts). AreAnsweredAtOnce ls bytes b new) turns is, refl)
+  turns_more (group ∷ groups) ls bytes first book new turns is = (turns.0, turns.1, turns.2, turns_more groups ls bytes turns.0 book new turns.3 is)

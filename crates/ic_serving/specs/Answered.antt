@@ -1,6 +1,7 @@
 -- What one line is answered, and what it leaves.
-use Rattle.std.specs.Prelude.{◌≡◌, ◌≢◌, ◌<◌, ◌-◌, ◌^◌, ℕ, List, ◌∷◌, Ok, Err, false, length}
+use Rattle.std.specs.Prelude.{◌≡◌, ◌≢◌, ◌⊎◌, ◌<◌, ◌≤◌, ◌+◌, ◌-◌, ◌^◌, ℕ, List, [], ◌∷◌, ◌++◌, Ok, Err, false, length, map}
 use Rattle.ic_disk.specs.declared.disk.Disk.{Ghosts}
+use Rattle.ic_jobs.specs.declared.event.Event.TheVariants.{Command as by_command}
 use Rattle.ic_jobs.specs.declared.reply.Reply.{Reply}
 use Rattle.ic_commands.specs.LineText.{ReadsLine}
 use Rattle.ic_commands.specs.ReplyText.{reply_text}
@@ -8,10 +9,11 @@ use Rattle.ic_lines.specs.Lines.{ended}
 use Rattle.ic_commands.specs.declared.line.Line.TheVariants.{Blank, Command as Asks, Run}
 use Rattle.ic_jobs.specs.declared.command.Command.{Command}
 use Rattle.ic_lines.specs.Answers.{Reading, events, answer, after_line}
+use Rattle.ic_lines.specs.Serving.{AreRead}
 use Rattle.ic_book.specs.declared.book.Book.{Book}
-use Rattle.ic_book.specs.Book.{is_broken, number_of, log_of, table_of, IsUnchanged}
+use Rattle.ic_book.specs.Book.{disk_of, is_broken, number_of, log_of, table_of, IsUnchanged}
 use Rattle.ic_book.specs.declared.limits.TheConstants.{MAX_ENTRIES}
-use Rattle.ic_book.specs.Moves.{Move, answers, keeps}
+use Rattle.ic_book.specs.Moves.{Move, answers, takes, keeps}
 use Rattle.ic_book.specs.ByCalls.{IsByCalls}
 use Rattle.ic_serving.specs.declared.fault.ServeFault.{ServeFault}
 use Rattle.ic_serving.specs.Booked.{Begins, IsAllKept}
@@ -53,6 +55,29 @@ pub record IsReplied {D : Type 0} {ghosts : Ghosts D} (command : Command) (bytes
   pub text : bytes ≡ ended (reply_text reply)
   pub made : EndsWith (answers 0 command reply) old new
 
+-- A command is taken, and these bytes are the line of its reply. It isn't kept yet, unless nothing was
+-- to be kept.
+pub record IsTaken {D : Type 0} {ghosts : Ghosts D} (command : Command) (bytes : List ℕ)
+    (old new : Book D ghosts) : Type 0 where
+  pub reply : Reply
+  pub text : bytes ≡ ended (reply_text reply)
+  pub done : IsByCalls old new
+  pub earlier : List Move
+  pub last : (done.moves ≡ takes 0 command reply ∷ earlier)
+      ⊎ (done.moves ≡ answers 0 command reply ∷ earlier)
+  pub answer : bytes ≡ answer (table_of old) (Ok (Asks command))
+  pub table : table_of new ≡ after_line (table_of old) (Ok (Asks command))
+
+-- Commands are taken one after the other, and these bytes are the lines of their replies. What is done
+-- after them leaves the table.
+abbrev pub AreTaken : {D : Type 0} {ghosts : Ghosts D}
+    → List Command → List ℕ → (first last : Book D ghosts) → Type 0
+AreTaken [] bytes first last =
+    (bytes ≡ []) × (table_of last ≡ table_of first) × IsByCalls first last
+AreTaken {D} {ghosts} (command ∷ commands) bytes first last =
+    (next : Book D ghosts) × (own : List ℕ) × (others : List ℕ) × (bytes ≡ own ++ others)
+    × IsTaken command own first next × AreTaken commands others next last
+
 -- What is done for a line is made of calls of the book: at a command the last of them answers it with
 -- the reply whose line these bytes are, and at a run the last one keeps all.
 abbrev pub IsDoneFor : {D : Type 0} {ghosts : Ghosts D} → Reading → List ℕ → (old new : Book D ghosts) → Type 0
@@ -89,3 +114,32 @@ pub record CallsFewFor {D : Type 0} {ghosts : Ghosts D} (line : List ℕ) (every
   pub reading : Reading
   pub read : ReadsLine line reading
   pub calls : CallsFew (events (table_of old) reading) every old new
+
+-- these lines ask for these commands
+abbrev pub AskFor : List (List ℕ) → List Command → Type 0
+AskFor ls commands = AreRead ls (map (λ (command : Command). Ok (Asks command)) commands)
+
+-- Lines are answered at once: the commands that they ask for are taken one after the other, and then
+-- all is kept. Their events stand at the end of the page. Where this had room for one, no more calls to
+-- the disk are made than one keep makes.
+pub record IsGroupAnswered {D : Type 0} {ghosts : Ghosts D} (ls : List (List ℕ)) (bytes : List ℕ)
+    (old new : Book D ghosts) : Type 0 where
+  pub commands : List Command
+  pub asked : AskFor ls commands
+  pub between : Book D ghosts
+  pub taken : AreTaken commands bytes old between
+  pub kept : EndsWith keeps between new
+  pub table : table_of new ≡ table_of between
+  pub all : IsAllKept new
+  pub whole : is_broken new ≡ false
+  pub fresh : length (log_of old) < MAX_ENTRIES → number_of old ≢ 2 ^ 64 - 1
+  pub page : HasRoom (map by_command commands) old → GoesOn (map by_command commands) old new
+  pub calls : length (log_of old) < MAX_ENTRIES
+      → ghosts.clock (disk_of new) ≤ ghosts.clock (disk_of old) + 6
+
+-- Lines are answered at once: one line by itself, or such a group.
+pub data AreAnsweredAtOnce {D : Type 0} {ghosts : Ghosts D} (ls : List (List ℕ)) (bytes : List ℕ)
+    (old new : Book D ghosts) : Type 0 where
+  by_line : (line : List ℕ) → ls ≡ line ∷ [] → IsAnswered line bytes old new
+      → AreAnsweredAtOnce ls bytes old new
+  by_group : IsGroupAnswered ls bytes old new → AreAnsweredAtOnce ls bytes old new

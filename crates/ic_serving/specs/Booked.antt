@@ -9,7 +9,7 @@ use Rattle.ic_jobs.specs.History.{table_after}
 use Rattle.ic_jobs.specs.Landing.{due}
 use Rattle.ic_book.specs.declared.book.Book.{Book}
 use Rattle.ic_book.specs.Book.{start_of, log_of, table_of, kept_of}
-use Rattle.ic_book.specs.Kept.{table_kept}
+use Rattle.ic_book.specs.Left.{table_kept}
 use Rattle.ic_book.specs.declared.limits.TheConstants.{MAX_ENTRIES}
 use Rattle.ic_serving.specs.Parts.{IsPart, IsKeptWithin}
 use Rattle.ic_serving.specs.Grown.{IsSamePage, GoesOn, GoesOnWithin, HasRoom}

@@ -1,5 +1,5 @@
 -- Tables between the events of a line.
-use Rattle.std.specs.Prelude.{◌≡◌, ◌⊎◌, ℕ, List, [], ◌∷◌, ◌++◌, Some}
+use Rattle.std.specs.Prelude.{◌≡◌, ◌⊎◌, ◌<◌, ℕ, List, [], ◌∷◌, ◌++◌, Some, length}
 use Rattle.ic_jobs.specs.Job.{JobParts}
 use Rattle.ic_jobs.specs.declared.event.Event.{Event}
 use Rattle.ic_jobs.specs.declared.reply.Reply.TheVariants.{Moved}
@@ -7,6 +7,7 @@ use Rattle.ic_jobs.specs.History.{reply_to}
 use Rattle.ic_commands.specs.LineText.{ReadsLine}
 use Rattle.ic_lines.specs.Turns.{after_events}
 use Rattle.ic_lines.specs.Answers.{Reading, events}
+use Rattle.ic_lines.specs.Serving.{IsServed}
 
 -- this table is the one after a front of some events
 pub record IsPart (t : List JobParts) (es : List Event) (u : List JobParts) : Type 0 where
@@ -38,3 +39,15 @@ pub record IsInLine (t : List JobParts) (line : List ℕ) (u : List JobParts) : 
 abbrev pub IsInFirst : (t : List JobParts) (ls : List (List ℕ)) (u : List JobParts) → Type 0
 IsInFirst t [] u = u ≡ t
 IsInFirst t (line ∷ ls) u = IsInLine t line u
+
+-- This table is within one of the first so many of some lines: those before it were served, and a front
+-- of its events has come. Where no line is left after those, it is the table that they leave.
+pub record IsInFew (most : ℕ) (t : List JobParts) (ls : List (List ℕ)) (u : List JobParts) : Type 0 where
+  pub front : List (List ℕ)
+  pub rest : List (List ℕ)
+  pub answers : List ℕ
+  pub between : List JobParts
+  pub parted : ls ≡ front ++ rest
+  pub few : length front < most
+  pub served : IsServed t front answers between
+  pub in_line : IsInFirst between rest u

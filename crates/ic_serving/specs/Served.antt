@@ -12,7 +12,7 @@ use Rattle.ic_serving.specs.declared.limits.TheConstants.{MAX_LINES}
 use Rattle.ic_serving.specs.declared.fault.ServeFault.{ServeFault}
 use Rattle.ic_serving.specs.declared.fault.ServeFault.TheVariants.{Read, Write, TooManyLines, Book, Pool, LongLine, Memory}
 use Rattle.ic_serving.specs.Faults.{ComesFor}
-use Rattle.ic_serving.specs.Parts.{IsInFirst}
+use Rattle.ic_serving.specs.Parts.{IsInFew}
 
 -- this is so of the lines of a reader's bytes, or where it doesn't tell them, of some lines
 abbrev pub OfLines : (bytes : Option (List ℕ)) (what : List (List ℕ) → Type 0) → Type 0
@@ -63,26 +63,28 @@ SaysOf LongLine t left front (line ∷ rest) = (length front < MAX_LINES) × (MA
 SaysOf TooManyLines t left front [] = ⊥
 SaysOf TooManyLines t left front (line ∷ rest) = length front ≡ MAX_LINES
 
--- What a fault says of a table: some events of the next line may have come to it, and none where
--- the line wasn't taken.
-abbrev pub IsLeftBy : ServeFault → (t : List JobParts) (ls : List (List ℕ)) (u : List JobParts) → Type 0
-IsLeftBy Read t ls u = u ≡ t
-IsLeftBy LongLine t ls u = u ≡ t
-IsLeftBy TooManyLines t ls u = u ≡ t
-IsLeftBy Write t ls u = IsInFirst t ls u
-IsLeftBy (Book fault) t ls u = IsInFirst t ls u
-IsLeftBy (Pool fault) t ls u = IsInFirst t ls u
-IsLeftBy Memory t ls u = IsInFirst t ls u
+-- What a fault says of a table: it may be within one of the next lines, of at most so many, and no
+-- event of theirs has come where no line was taken.
+abbrev pub IsLeftBy : ServeFault → (most : ℕ) (t : List JobParts) (ls : List (List ℕ))
+    (u : List JobParts) → Type 0
+IsLeftBy Read most t ls u = u ≡ t
+IsLeftBy LongLine most t ls u = u ≡ t
+IsLeftBy TooManyLines most t ls u = u ≡ t
+IsLeftBy Write most t ls u = IsInFew most t ls u
+IsLeftBy (Book fault) most t ls u = IsInFew most t ls u
+IsLeftBy (Pool fault) most t ls u = IsInFew most t ls u
+IsLeftBy Memory most t ls u = IsInFew most t ls u
 
 -- A serving was ended by a fault other than that of the writer: this front of the lines is answered.
--- The table is within the line after it, as is the one that was kept last where all was kept.
-pub record IsEnded (fault : ServeFault) (all_kept : Type 0) (front rest : List (List ℕ))
-    (t u kept : List JobParts) (old new : Option (List ℕ)) : Type 0 where
+-- The table is within the group of at most so many lines after it, as is the one that was kept last
+-- where all was kept.
+pub record IsEnded (fault : ServeFault) (most : ℕ) (all_kept : Type 0)
+    (front rest : List (List ℕ)) (t u kept : List JobParts) (old new : Option (List ℕ)) : Type 0 where
   pub between : List JobParts
   pub answered : AreAnswered front t between old new
   pub says : SaysOf fault between u front rest
-  pub in_line : IsLeftBy fault between rest u
-  pub keeps : all_kept → IsLeftBy fault between rest kept
+  pub in_group : IsLeftBy fault most between rest u
+  pub keeps : all_kept → IsLeftBy fault most between rest kept
 
 -- these bytes were written, and after them a front of these
 pub record AppendsFront (old new : Option (List ℕ)) (before after : List ℕ) : Type 0 where
@@ -92,15 +94,15 @@ pub record AppendsFront (old new : Option (List ℕ)) (before after : List ℕ) 
   pub written : Appends old new (before ++ sent)
 
 -- The writer failed: this front of the lines is done. The answers to all of them are written, except
--- for at most the last one, of which a front is.
-pub record IsCut (front : List (List ℕ)) (t u : List JobParts) (old new : Option (List ℕ)) : Type 0 where
+-- for those to a last group of at most so many, of which a front is.
+pub record IsCut (most : ℕ) (front : List (List ℕ)) (t u : List JobParts) (old new : Option (List ℕ)) : Type 0 where
   pub whole : List (List ℕ)
   pub last : List (List ℕ)
   pub between : List JobParts
   pub answers : List ℕ
   pub more : List ℕ
   pub parted : front ≡ whole ++ last
-  pub one : length last ≤ 1
+  pub few : length last ≤ most
   pub within : MayBeServed front
   pub answered : IsServed t whole answers between
   pub done : IsServed between last more u

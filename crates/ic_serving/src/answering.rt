@@ -217,7 +217,7 @@ fn answer_run<T: Threads + Wait + Copy + Send + 'static, D: Disk, G: Gate>(
 }
 
 /// A line with its line feed.
-fn ended(line: Vec<u8>) -> Result<Vec<u8>, AllocError>
+pub(crate) fn ended(line: Vec<u8>) -> Result<Vec<u8>, AllocError>
     ensures { IfOk result (λ bytes. bytes.items ≡ ended line.items) }
 {
     let mut line = line;

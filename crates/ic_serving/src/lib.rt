@@ -4,19 +4,21 @@
 //! rounds of a `run`, large ones on several threads. `serve_lines` takes lines from a reader, has each
 //! answered, and writes the answer; `serve_watched` does so too, and tells a gate of the rounds.
 //!
-//! For a loop of one's own there are their parts: `answer_command`, `make_round` by `Makers`,
+//! For a loop of one's own there are their parts: `answer_command`, `take_command`, `make_round` by `Makers`,
 //! `keep_each` and `keep_all`. What lines ask for and are answered is said by `ic_lines`. Why a serving
 //! ended is a `ServeFault`.
 #![tactic(auto)]
 
 mod answering;
 mod fault;
+mod grouping;
 pub mod laws;
 mod limits;
 mod makers;
 mod rounds;
 mod running;
 mod serving;
+mod taking;
 mod writing;
 
 pub use answering::{answer_command, answer_line};
@@ -26,3 +28,4 @@ pub use makers::Makers;
 pub use rounds::{keep_all, make_round};
 pub use running::{count_running, keep_each};
 pub use serving::{serve_lines, serve_watched};
+pub use taking::take_command;

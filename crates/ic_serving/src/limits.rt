@@ -3,6 +3,5 @@
 /// Lines that are served, blank and refused ones counted.
 pub const MAX_LINES: usize = 1_000_000;
 
-/// A round of fewer equations is made in the thread that serves. This was measured up to the most
-/// equations that a job holds, while several threads made terms of all of them: they took longer.
-pub(crate) const FEW: usize = 4_000;
+/// A lap of fewer equations is left to the thread that serves, since workers would take longer.
+pub(crate) const ENOUGH: usize = 2_000;

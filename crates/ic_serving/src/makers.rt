@@ -6,56 +6,116 @@ ghost use Rattle.ic_pool.specs.Played.{played};
 ghost use Rattle.ic_pool.specs.PoolFault.{Answers};
 ghost use Rattle.ic_pool.specs.Workers.{ByWorkers, played_by};
 
-use crate::limits::FEW;
-use ic_crew::Team;
+use crate::limits::ENOUGH;
+use ic_book::Book;
+use ic_disk::Disk;
 use ic_flat_round::Workspace;
 use ic_flights::{Flight, Played};
+use ic_jobs::{Job, MAX_JOBS, State};
+use ic_laps::Laps;
 use ic_pool::{PoolFault, play_in};
-use std::alloc::Global;
+use std::alloc::{AllocError, Global};
 use std::sync::Wait;
 use std::thread::Threads;
 
-/// Who makes the rounds of a serving: its own thread, in lists that are kept, and workers that stand
-/// ready from the first round of many equations on.
+/// Who makes the rounds of a serving: its own thread, in lists that are kept, and workers that make laps: the next round of
+/// each of several jobs, before it is asked for.
 #[derive(Drop)]
 pub struct Makers {
     workspace: Workspace,
-    team: Team,
+    laps: Laps,
+    wanted: u64,
 }
 
 impl Makers {
-    /// Makers with no worker standing yet.
+    /// Makers that no round is asked of, with no worker standing yet.
     pub fn new(alloc: Global) -> Makers {
         Makers {
             workspace: Workspace::new(alloc),
-            team: Team::new(),
+            laps: Laps::new(alloc),
+            wanted: 0,
         }
     }
 
-    /// The round of a flight. One thread makes it; several make one of many equations. Where one is
-    /// asked for, no refusal comes of other threads.
-    pub fn play<T: Threads + Wait + Copy + Send + 'static>(
+    /// Tells how many rounds are asked for at most. So many may be made ahead.
+    pub fn expect(&mut self, rounds: u64) {
+        self.wanted = rounds;
+    }
+
+    /// Makes a lap of the jobs that are due from a place on, where no round waits and several threads gain by it.
+    pub(crate) fn look_ahead<T: Threads + Wait + Copy + Send + 'static, D: Disk>(
         &mut self,
         rt: &T,
         alloc: Global,
-        flight: &Flight,
+        book: &Book<D>,
+        after: usize,
         workers: usize,
-    ) -> Result<Played, PoolFault>
-        requires { 1 ≤ workers }
-        ensures answer { ByWorkers result (played_by workers flight.now) }
-        ensures alone { workers ≡ 1 → Answers result (played flight.now) }
+    ) {
+        if workers == 1 || self.wanted < 2 || !self.laps.is_empty() {
+            return;
+        }
+        if !is_worth_it(book.table().jobs()) {
+            return;
+        }
+        let most = self.wanted.min(MAX_JOBS as u64) as usize;
+        // Without memory no round is made ahead.
+        if let Ok(flights) = flights_from(alloc, book, after, most) {
+            self.laps
+                .make(rt, alloc, flights, workers, &mut self.workspace);
+        }
+    }
+
+    /// The round of a flight: the one that was made ahead, or else this thread makes it. It is the same round.
+    pub fn play(&mut self, alloc: Global, flight: &Flight) -> Result<Played, PoolFault>
+        ensures answer { Answers result (played flight.now) }
         ensures round { IfOk result (λ played. played ≡ round_of flight.now) }
     {
-        if workers == 1 || flight.config().equations_len() < FEW {
-            ic_pool::laws::workers_answer_so();
-            ic_pool::laws::refusals_come_in_order();
-            return play_in(alloc, flight, &mut self.workspace);
+        ic_pool::laws::refusals_come_in_order();
+        self.wanted = self.wanted.saturating_sub(1);
+        if let Some(made) = self.laps.take(flight) {
+            return Ok(made);
         }
-        self.team.play(rt, alloc, flight, workers)
+        play_in(alloc, flight, &mut self.workspace)
     }
 
     /// Ends the workers that stand, and joins their threads.
     pub fn finish<T: Threads>(self, rt: &T) {
-        self.team.finish(rt);
+        let Makers { laps, .. } = self;
+        laps.finish(rt);
     }
+}
+
+/// Whether several threads gain by a lap: at least two jobs run, with enough equations together.
+fn is_worth_it(jobs: &[Job]) -> bool {
+    let mut running: usize = 0;
+    let mut equations: usize = 0;
+    for job in jobs {
+        if job.state() == State::Running {
+            running = running.saturating_add(1);
+            equations = equations.saturating_add(job.config().equations_len());
+        }
+    }
+    running > 1 && equations >= ENOUGH
+}
+
+/// The flights that are due from a place on, one for each job, at most so many.
+fn flights_from<D: Disk>(
+    alloc: Global,
+    book: &Book<D>,
+    after: usize,
+    most: usize,
+) -> Result<Vec<Flight>, AllocError> {
+    let mut flights = Vec::with_capacity(alloc, most)?;
+    let mut place = after;
+    for _ in 0..most {
+        let Ok(Some(flight)) = book.due(place) else {
+            break;
+        };
+        if flight.place() < place {
+            break;
+        }
+        place = flight.place().saturating_add(1);
+        flights.push(flight)?;
+    }
+    Ok(flights)
 }

@@ -112,25 +112,23 @@ pub fn make_round<T: Threads + Wait + Copy + Send + 'static, D: Disk>(
     ic_jobs::laws::what_is_due_is_awaited();
     ic_jobs::laws::due_is_the_next_running_job();
     let _jobs = book.table().jobs();
+    makers.look_ahead(rt, alloc, book, after, workers);
     let Some(flight) = book.due(after)? else {
         return Ok(None);
     };
     make_room(alloc, book)?;
     let place = flight.place();
-    land_or_halt(rt, alloc, book, &flight, workers, makers)?;
+    land_or_halt(alloc, book, &flight, makers)?;
     Ok(Some(place))
 }
 
 /// Makes a round that the book awaits and lands it, or halts its job where it can't be made.
-fn land_or_halt<T: Threads + Wait + Copy + Send + 'static, D: Disk>(
-    rt: &T,
+fn land_or_halt<D: Disk>(
     alloc: Global,
     book: &mut Book<D>,
     flight: &Flight,
-    workers: usize,
     makers: &mut Makers,
 ) -> Result<(), ServeFault>
-    requires workers { 1 ≤ workers }
     requires room { length (log_of book.old) < MAX_ENTRIES }
     requires awaits { Awaits (table_of book.old) flight.now.name flight.now.rules flight.now.config
         flight.now.rounds }
@@ -141,7 +139,7 @@ fn land_or_halt<T: Threads + Wait + Copy + Send + 'static, D: Disk>(
     ensures refused { OnErr result (IsUnchanged book.old book.new) }
     ensures blocked { IsTrue (is_blocked flight.now) → IfErr result ComesUnmade }
     ensures fault { FaultLeaves ComesInLine result book.old book.new }
-    ensures alone { workers ≡ 1 → IfErr result ComesAlone }
+    ensures alone { IfErr result ComesAlone }
     ensures one { unkept_of book.new ≤ unkept_of book.old + 1 }
     ensures keeper { keeper_of book.new ≡ keeper_of book.old }
     ensures done { IsByCalls book.old book.new }
@@ -149,7 +147,7 @@ fn land_or_halt<T: Threads + Wait + Copy + Send + 'static, D: Disk>(
     book.facts();
     ic_pool::laws::refused_flights_are_blocked();
     ic_pool::laws::workers_answer_so();
-    let played = match makers.play(rt, alloc, flight, workers) {
+    let played = match makers.play(alloc, flight) {
         Ok(played) => played,
         Err(fault) => {
             if !fault.is_of_flight() {

@@ -102,6 +102,7 @@ fn make_rounds<T: Threads + Wait + Copy + Send + 'static, D: Disk, G: Gate>(
 {
     book.facts();
     ic_jobs::laws::what_is_due_is_awaited();
+    makers.expect(count);
     let mut place = 0;
     for made in 0..count {
         let _jobs = book.table().jobs();

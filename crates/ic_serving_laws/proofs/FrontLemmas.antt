@@ -11,7 +11,7 @@ use Rattle.ic_book.specs.declared.fault.BookFault.{BookFault}
 use Rattle.ic_book.specs.declared.fault.BookFault.TheVariants.{Device}
 use Rattle.ic_book.specs.Book.{disk_of, kept_of, log_of, start_of}
 use Rattle.ic_book.specs.ByCalls.{IsOnMadeDisk}
-use Rattle.ic_book.specs.Kept.{HoldsKeptOrAll}
+use Rattle.ic_book.specs.Left.{HoldsKeptOrAll}
 use Rattle.ic_book.specs.Moves.{brings, closes, keep_move, stops}
 use Rattle.ic_book.specs.Server.{IsCall, IsFound, Server, Step, down, up}
 use Rattle.ic_scripts.specs.Reasons.{IsKeptAndClosed}

@@ -7,10 +7,11 @@ use Rattle.ic_jobs.specs.declared.event.Event.{Event}
 use Rattle.ic_jobs.specs.History.{table_after}
 use Rattle.ic_commands.specs.LineText.{ReadsLine}
 use Rattle.ic_lines.specs.Turns.{turns, after_events}
-use Rattle.ic_lines.specs.Answers.{Reading, events}
+use Rattle.ic_lines.specs.Answers.{Reading, after, events}
+use Rattle.ic_lines.specs.Serving.{AreRead, IsServed}
 use Rattle.ic_serving.specs.declared.fault.ServeFault.{ServeFault}
 use Rattle.ic_serving.specs.declared.fault.ServeFault.TheVariants.{Read, Write, TooManyLines, Book, Pool, LongLine, Memory}
-use Rattle.ic_serving.specs.Parts.{IsBeforeRound, IsPart, IsKeptWithin, IsInLine, IsInFirst}
+use Rattle.ic_serving.specs.Parts.{IsBeforeRound, IsPart, IsKeptWithin, IsInFew, IsInLine, IsInFirst}
 use Rattle.ic_serving.specs.Moments.{IsKeptInLine}
 use Rattle.ic_pool.specs.declared.fault.PoolFault.{PoolFault}
 use Rattle.ic_pool.specs.declared.fault.PoolFault.TheVariants as pool
@@ -98,14 +99,40 @@ first_from law t u (line ∷ more) same =
 
 -- ---- faults
 
-pub left_within : SomeWay → (fault : ServeFault) (t u : List JobParts) (ls : List (List ℕ)) → IsLeftBy fault t ls u → IsInFirst t ls u
-left_within law Read t u ls left = first_from law t u ls left
-left_within law Write t u ls left = left
-left_within law TooManyLines t u ls left = first_from law t u ls left
-left_within law (Book fault) t u ls left = left
-left_within law (Pool fault) t u ls left = left
-left_within law LongLine t u ls left = first_from law t u ls left
-left_within law Memory t u ls left = left
+first_few : SomeWay → (most : ℕ) (t u : List JobParts) (ls : List (List ℕ)) → 1 ≤ most → u ≡ t → IsInFew most t ls u
+first_few law most t u ls one same = record {
+  front = [];
+  rest = ls;
+  answers = [];
+  between = t;
+  parted = refl;
+  few = omega (arith, one);
+  served = record { readings = []; read = tt; answered = refl; leaves = refl };
+  in_line = first_from law t u ls same;
+}
+
+pub left_within : SomeWay → (fault : ServeFault) (most : ℕ) (t u : List JobParts) (ls : List (List ℕ)) → 1 ≤ most → IsLeftBy fault most t ls u → IsInFew most t ls u
+left_within law Read most t u ls one left = first_few law most t u ls one left
+left_within law Write most t u ls one left = left
+left_within law TooManyLines most t u ls one left = first_few law most t u ls one left
+left_within law (Book fault) most t u ls one left = left
+left_within law (Pool fault) most t u ls one left = left
+left_within law LongLine most t u ls one left = first_few law most t u ls one left
+left_within law Memory most t u ls one left = left
+
+-- within one line it is within the next
+few_parts : (t v u : List JobParts) (ls front rest : List (List ℕ)) (answers : List ℕ) → ls ≡ front ++ rest → length front < 1 → IsServed t front answers v → IsInFirst v rest u → IsInFirst t ls u
+few_parts t v u ls [] rest answers parted few served there =
+    let same : v ≡ t = nothing served.readings served.read served.leaves in
+    subst (λ (xs : List (List ℕ)). IsInFirst t xs u) (sym parted) (subst (λ (x : List JobParts). IsInFirst x rest u) same there)
+  where
+    nothing : (rs : List Reading) → AreRead [] rs → v ≡ after t rs → v ≡ t
+    nothing [] read leaves = leaves
+    nothing (r ∷ rs) read leaves = absurd read
+few_parts t v u ls (line ∷ front) rest answers parted few served there = absurd (omega (arith, few))
+
+pub few_one : (t u : List JobParts) (ls : List (List ℕ)) → IsInFew 1 t ls u → IsInFirst t ls u
+few_one t u ls is = few_parts t is.between u ls is.front is.rest is.answers is.parted is.few is.served is.in_line
 
 pub says_long : (t left : List JobParts) (front rest : List (List ℕ)) → SaysOf LongLine t left front rest
     → (line : List ℕ) × (more : List (List ℕ)) × (rest ≡ line ∷ more) × (length front < 1000000) × (262144 < length line)

@@ -12,15 +12,16 @@ use Rattle.ic_frames.specs.declared.faults.OpenCause.{OpenCause}
 use Rattle.ic_frames.specs.declared.faults.OpenCause.TheVariants.{Device, Memory}
 use Rattle.ic_book.specs.declared.book.Book.{Book}
 use Rattle.ic_book.specs.Book.{table_of, log_of, kept_of, disk_of, is_broken}
-use Rattle.ic_book.specs.Moves.{Move, opens, refuses, answers, fails, rounds, keeps, stays, closes, stops}
+use Rattle.ic_book.specs.Moves.{Move, opens, refuses, answers, fails, takes, rounds, keeps, stays, closes, stops}
 use Rattle.ic_book.specs.Server.{Server, down, up, IsCall, Opens, Refuses, IsFound, Step, Runs, Reaches}
 use Rattle.ic_serving.specs.declared.fault.ServeFault.{ServeFault}
 use Rattle.ic_serving.specs.Booked.{IsAllKept, last_kept}
 use Rattle.ic_serving.specs.Serving.{IsServing}
-use Rattle.ic_serving.specs.InTurn.{AreAnsweredInTurn, AreServedInTurn, calls_for, moves_in_turn}
+use Rattle.ic_serving.specs.Answered.{AreAnsweredAtOnce, AreTaken, by_group, by_line}
+use Rattle.ic_serving.specs.InTurn.{AreAnsweredInTurn, AreServedInTurn, calls_for, moves_at_once, moves_in_turn, moves_taken}
 use Rattle.ic_serving.specs.Stopped.{MayStand}
 use Rattle.ic_book.specs.Entries.{command_entry, round_entry}
-use Rattle.ic_book.specs.lemmas.Chains.{by_calls_then}
+use Rattle.ic_book.specs.lemmas.Chains.{by_calls_then, then_moves}
 use Rattle.ic_book.specs.lemmas.Facts.{history_of}
 use Rattle.ic_book.specs.ByCalls.{Calls, IsByCalls, IsOnMadeDisk}
 use Rattle.ic_lives.specs.Headline.{IsTableAfter}
@@ -38,6 +39,7 @@ module _ {D : Type 0} {ghosts : Ghosts D} where
   step_of (refuses cause) old new is = is
   step_of (answers who command reply) old new is = is
   step_of (fails who command reply) old new is = is
+  step_of (takes who command reply) old new is = is
   step_of (rounds name reply) old new is = is
   step_of keeps old new is = is
   step_of stays old new is = is
@@ -61,34 +63,55 @@ module _ {D : Type 0} {ghosts : Ghosts D} where
     runs = runs_join done.moves moves (down run.disk) (up old) (up new) run.runs (calls_run done.moves old new done.calls);
   }
 
-  -- lines that were answered in turn, and what is done after some of them
-  pub reaches_turns : (moves : List Move) (ls : List (List ℕ)) (first last : Book D ghosts) (turns : AreAnsweredInTurn ls first last) → Reaches moves (up first)
-      → Reaches (moves_in_turn ls first last turns ++ moves) (up last)
+  -- ---- lines that were answered at once
+
+  taken_calls : (cs : List Command) (bytes : List ℕ) (first last : Book D ghosts) (taken : AreTaken cs bytes first last)
+      → (done : IsByCalls first last) × (done.moves ≡ moves_taken cs bytes first last taken)
+  taken_calls [] bytes first last taken = (taken.2, refl)
+  taken_calls (c ∷ cs) bytes first last taken =
+      let own = taken.4.done in
+      let rest = taken_calls cs taken.2 taken.0 last taken.5 in
+      (by_calls_then first taken.0 last own rest.0, then_moves first taken.0 last own rest.0 ∙ ap (λ (ms : List Move). ms ++ own.moves) rest.1)
+
+  pub at_once_calls : (ls : List (List ℕ)) (bytes : List ℕ) (old new : Book D ghosts) (is : AreAnsweredAtOnce ls bytes old new)
+      → (done : IsByCalls old new) × (done.moves ≡ moves_at_once ls bytes old new is)
+  at_once_calls ls bytes old new (by_line line one is) = (calls_for is.reading bytes old new is.done, refl)
+  at_once_calls ls bytes old new (by_group g) =
+      let keep = g.kept.done in
+      let front = taken_calls g.commands bytes old g.between g.taken in
+      (by_calls_then old g.between new front.0 keep, then_moves old g.between new front.0 keep ∙ ap (λ (ms : List Move). keep.moves ++ ms) front.1)
+
+  -- groups that were answered in turn, and what is done after some of them
+  pub reaches_turns : (moves : List Move) (groups : List (List (List ℕ))) (first last : Book D ghosts) (turns : AreAnsweredInTurn groups first last) → Reaches moves (up first)
+      → Reaches (moves_in_turn groups first last turns ++ moves) (up last)
   reaches_turns moves [] first last turns run = subst (λ (b : Book D ghosts). Reaches moves (up b)) (sym turns) run
-  reaches_turns moves (line ∷ ls) first last turns run =
-      let done = calls_for turns.2.reading turns.1 first turns.0 turns.2.done in
-      subst (λ (ms : List Move). Reaches ms (up last)) (sym (append_assoc (moves_in_turn ls turns.0 last turns.3) done.moves moves))
-      (reaches_turns (done.moves ++ moves) ls turns.0 last turns.3 (reaches_more moves first turns.0 done run))
+  reaches_turns moves (group ∷ groups) first last turns run =
+      let done = at_once_calls group turns.1 first turns.0 turns.2 in
+      let own = moves_at_once group turns.1 first turns.0 turns.2 in
+      let later = moves_in_turn groups turns.0 last turns.3 in
+      subst (λ ms. Reaches ms (up last)) (ap (λ (ms : List Move). later ++ (ms ++ moves)) done.1 ∙ sym (append_assoc later own moves))
+      (reaches_turns (done.0.moves ++ moves) groups turns.0 last turns.3 (reaches_more moves first turns.0 done.0 run))
 
   -- and by themselves
-  pub turns_run : (ls : List (List ℕ)) (first last : Book D ghosts) (turns : AreAnsweredInTurn ls first last)
-      → Runs {ghosts = ghosts} (moves_in_turn ls first last turns) (up first) (up last)
+  pub turns_run : (groups : List (List (List ℕ))) (first last : Book D ghosts) (turns : AreAnsweredInTurn groups first last)
+      → Runs {ghosts = ghosts} (moves_in_turn groups first last turns) (up first) (up last)
   turns_run [] first last turns = ap (λ (b : Book D ghosts). up b) turns
-  turns_run (line ∷ ls) first last turns =
-      let done = calls_for turns.2.reading turns.1 first turns.0 turns.2.done in
-      runs_join (moves_in_turn ls turns.0 last turns.3) done.moves (up first) (up turns.0) (up last) (calls_run done.moves first turns.0 done.calls)
-      (turns_run ls turns.0 last turns.3)
+  turns_run (group ∷ groups) first last turns =
+      let done = at_once_calls group turns.1 first turns.0 turns.2 in
+      let later = moves_in_turn groups turns.0 last turns.3 in
+      subst (λ (ms : List Move). Runs {ghosts = ghosts} (later ++ ms) (up first) (up last)) done.1
+      (runs_join later done.0.moves (up first) (up turns.0) (up last) (calls_run done.0.moves first turns.0 done.0.calls) (turns_run groups turns.0 last turns.3))
 
-  pub turns_split : (front more : List (List ℕ)) (first last : Book D ghosts) → AreAnsweredInTurn (front ++ more) first last
+  pub turns_split : (front more : List (List (List ℕ))) (first last : Book D ghosts) → AreAnsweredInTurn (front ++ more) first last
       → (mid : Book D ghosts) × AreAnsweredInTurn front first mid × AreAnsweredInTurn more mid last
   turns_split [] more first last turns = (first, refl, turns)
-  turns_split (line ∷ front) more first last turns =
+  turns_split (group ∷ front) more first last turns =
       let rest = turns_split front more turns.0 last turns.3 in (rest.0, (turns.0, turns.1, turns.2, rest.1), rest.2)
 
-  pub turns_calls : (ls : List (List ℕ)) (mid last new : Book D ghosts) → AreAnsweredInTurn ls mid last → IsByCalls last new → IsByCalls mid new
+  pub turns_calls : (groups : List (List (List ℕ))) (mid last new : Book D ghosts) → AreAnsweredInTurn groups mid last → IsByCalls last new → IsByCalls mid new
   turns_calls [] mid last new turns done = subst (λ (b : Book D ghosts). IsByCalls b new) turns done
-  turns_calls (line ∷ ls) mid last new turns done =
-      by_calls_then mid turns.0 new (calls_for turns.2.reading turns.1 mid turns.0 turns.2.done) (turns_calls ls turns.0 last new turns.3 done)
+  turns_calls (group ∷ groups) mid last new turns done =
+      by_calls_then mid turns.0 new (at_once_calls group turns.1 mid turns.0 turns.2).0 (turns_calls groups turns.0 last new turns.3 done)
 
   -- a stop in the midst of one
   stop_step : (move : Move) (before after : Book D ghosts) (found : D) → IsCall move before after → IsFound ghosts (disk_of before) (disk_of after) found
@@ -97,6 +120,7 @@ module _ {D : Type 0} {ghosts : Ghosts D} where
   stop_step (refuses cause) before after found is here = (up after, is, here)
   stop_step (answers who command reply) before after found is here = (up after, is, here)
   stop_step (fails who command reply) before after found is here = (up after, is, here)
+  stop_step (takes who command reply) before after found is here = (up after, is, here)
   stop_step (rounds name reply) before after found is here = (up after, is, here)
   stop_step keeps before after found is here = (up after, is, here)
   stop_step stays before after found is here = (up after, is, here)
@@ -152,12 +176,12 @@ module _ {D : Type 0} {ghosts : Ghosts D} where
         (at.0, at.1, next, refused_so replays joins one content_is_image image_is_left left_is_image (at.0 ++ moves) cause after next)
 
     -- in the words of the lines
-    pub lines_stopped : {T : Type 0} (result : Result T ServeFault) (moves : List Move) (old new : Book D ghosts) (ls : List (List ℕ)) (before after : Option (List ℕ))
-        (serving : IsServing result ls old new before after) (found : D) → Reaches moves (up old) → IsFound ghosts (disk_of old) (disk_of new) found
+    pub lines_stopped : {T : Type 0} (most : ℕ) (result : Result T ServeFault) (moves : List Move) (old new : Book D ghosts) (ls : List (List ℕ)) (before after : Option (List ℕ))
+        (serving : IsServing most result ls old new before after) (found : D) → Reaches moves (up old) → IsFound ghosts (disk_of old) (disk_of new) found
         → (cut : List Move) × IsCutShort serving.crash.done.moves cut × Reaches {ghosts = ghosts} (cut ++ moves) (down found)
         × ((file : List ℕ) → ghosts.image found file → (t : List JobParts) × HoldsTable t file × MayStand (IsAllKept old) (last_kept old) (table_of old) ls t
         × (history : List Entry) × IsHistoryOf (cut ++ moves) history × (t ≡ replay [] history))
-    lines_stopped result moves old new ls before after serving found run here =
+    lines_stopped most result moves old new ls before after serving found run here =
         let so = stopped_so moves old new serving.crash.done found run here in (
           so.0,
           so.1,
@@ -169,15 +193,15 @@ module _ {D : Type 0} {ghosts : Ghosts D} where
               (held.0, held.2, held.1, told.0, told.1, same),
         )
 
-    -- after any number of answered lines
+    -- after any number of answered groups
     pub turns_stopped : (moves : List Move) (old new : Book D ghosts) (found : D)
-        (all : List (List ℕ)) (served : AreServedInTurn all old new) (front more : List (List ℕ)) → all ≡ front ++ more → Reaches moves (up old)
+        (most : ℕ) (all : List (List ℕ)) (served : AreServedInTurn most all old new) (front more : List (List (List ℕ))) → served.groups ≡ front ++ more → Reaches moves (up old)
         → (mid : Book D ghosts) × (turns : AreAnsweredInTurn front old mid) × (others : AreAnsweredInTurn more mid served.between) × (later : IsByCalls mid new)
         × Reaches (moves_in_turn front old mid turns ++ moves) (up mid)
         × (IsFound ghosts (disk_of mid) (disk_of new) found → (cut : List Move) × IsCutShort later.moves cut
         × Reaches {ghosts = ghosts} (cut ++ (moves_in_turn front old mid turns ++ moves)) (down found))
-    turns_stopped moves old new found all served front more parted run =
-        let split = turns_split front more old served.between (subst (λ (xs : List (List ℕ)). AreAnsweredInTurn xs old served.between) parted served.answered) in
+    turns_stopped moves old new found most all served front more parted run =
+        let split = turns_split front more old served.between (subst (λ (xs : List (List (List ℕ))). AreAnsweredInTurn xs old served.between) parted served.answered) in
         let later = turns_calls more split.0 served.between new split.2 served.after in
         let there = reaches_turns moves front old split.0 split.1 run in
         (split.0, split.1, split.2, later, there, λ here. stopped_so (moves_in_turn front old split.0 split.1 ++ moves) split.0 new later found there here)
@@ -200,6 +224,7 @@ module _ {D : Type 0} {ghosts : Ghosts D} where
   unkept_on : (entry : Entry) (move : Move) (old new : Book D ghosts) → IsCall move old new → StandsUnkept entry old → StandsUnkept entry new
   unkept_on entry (answers who command reply) old new does is = absurd (not_both (is_broken new) (does.broken is.broken) does.page.2)
   unkept_on entry (fails who command reply) old new does is = absurd (not_both (is_broken old) is.broken does.page.2)
+  unkept_on entry (takes who command reply) old new does is = absurd (not_both (is_broken new) (does.broken is.broken) does.page.2)
   unkept_on entry (rounds name reply) old new does is =
       let one = round_entry name reply ∷ [] in
       record {

@@ -1,5 +1,5 @@
 -- Servings and other moves, one after the other, and what they have answered.
-use Rattle.std.proofs.Common.{◌≡◌, ℕ, ◌≤◌, List, [], ◌∷◌, ◌++◌, Option, Result, Ok, Err, refl, sym, subst}
+use Rattle.std.proofs.Common.{◌≡◌, ◌⊎◌, inl, inr, append-nil, append_assoc, ℕ, ◌≤◌, List, [], ◌∷◌, ◌++◌, Option, Result, Ok, Err, refl, sym, subst}
 use Rattle.std.specs.Prelude.{IsTrue}
 use Rattle.ic_disk.specs.declared.disk.Disk.{Ghosts}
 use Rattle.ic_disk.specs.Images.{Within}
@@ -11,15 +11,17 @@ use Rattle.ic_commands.specs.declared.line.Line.TheVariants.{Blank, Command, Run
 use Rattle.ic_lines.specs.Answers.{Reading}
 use Rattle.ic_book.specs.declared.book.Book.{Book}
 use Rattle.ic_book.specs.Book.{table_of}
-use Rattle.ic_book.specs.ByCalls.{IsByCalls}
+use Rattle.ic_book.specs.ByCalls.{Calls, IsByCalls}
 use Rattle.ic_book.specs.Entries.{command_entry}
-use Rattle.ic_book.specs.Moves.{Move}
-use Rattle.ic_book.specs.Server.{Server, down, up, Reaches}
+use Rattle.ic_book.specs.Moves.{Move, opens, refuses, answers, fails, takes, rounds, keeps, stays, closes, stops}
+use Rattle.ic_book.specs.Server.{IsCall, Server, down, up, Reaches}
 use Rattle.ic_serving.specs.declared.fault.ServeFault.{ServeFault}
-use Rattle.ic_serving.specs.Answered.{IsDoneFor}
-use Rattle.ic_serving.specs.InTurn.{AreAnsweredInTurn, calls_for, moves_in_turn, reply_for, replies_in_turn}
+use Rattle.ic_jobs.specs.declared.command.Command.{Command as Asked}
+use Rattle.ic_jobs.specs.declared.reply.Reply.{Reply}
+use Rattle.ic_serving.specs.Answered.{AreAnsweredAtOnce, AreTaken, IsDoneFor, IsGroupAnswered, by_group, by_line}
+use Rattle.ic_serving.specs.InTurn.{AreAnsweredInTurn, calls_for, moves_at_once, moves_in_turn, moves_taken, reply_for, replies_at_once, replies_in_turn, replies_taken}
 use Rattle.ic_serving.specs.Serving.{IsServing}
-use Rattle.ic_lives.specs.Histories.{answered, StandAmong, IsHistoryOf}
+use Rattle.ic_lives.specs.Histories.{answered, taken, StandAmong, IsHistoryOf}
 use Rattle.ic_serving_laws.specs.Servings.{Serving, Part, ended, stopped, other, ArePartsOf, AreMovesOf, line_moves, line_replies, answered_by}
 use Rattle.ic_lives.specs.lemmas.JobLemmas.{Lives}
 use Rattle.ic_lives.specs.lemmas.AmongLemmas.{answered_join, among_self, among_after, among_join, among_longer, among_trans, file_stands, table_stands}
@@ -30,12 +32,22 @@ use Rattle.ic_serving_laws.proofs.ServedLemmas.{reaches_more, reaches_turns, run
 
 -- what stands among what each of them has answered
 among_moves : (es more : List Entry) (later earlier : List Move) → StandAmong es (answered earlier) → StandAmong more (answered later) → StandAmong (es ++ more) (answered (later ++ earlier))
-among_moves es more later earlier first second = subst (λ (l : List Entry). StandAmong (es ++ more) l) (sym (answered_join later earlier))
-    (among_join es more (answered earlier) (answered later) first second)
+among_moves es more later earlier first second = among_trans (es ++ more) (answered earlier ++ answered later) (answered (later ++ earlier))
+    (among_join es more (answered earlier) (answered later) first second) (answered_join earlier later)
 
 -- also with moves after them
 among_earlier : (es : List Entry) (later earlier : List Move) → StandAmong es (answered earlier) → StandAmong es (answered (later ++ earlier))
-among_earlier es later earlier first = subst (λ (l : List Entry). StandAmong es l) (sym (answered_join later earlier)) (among_longer es (answered earlier) (answered later) first)
+among_earlier es later earlier first = among_trans es (answered earlier ++ answered later) (answered (later ++ earlier)) (among_longer es (answered earlier) (answered later) first) (answered_join earlier later)
+
+-- what moves have answered, and what they have taken and not kept since
+abbrev pub told : List Move → List Entry
+told moves = answered moves ++ taken moves
+
+told_one : (es a t : List Entry) (e : Entry) → StandAmong es (a ++ t) → StandAmong es (a ++ (t ++ e ∷ []))
+told_one es a t e among = subst (StandAmong es) (append_assoc a t (e ∷ [])) (among_longer es (a ++ t) (e ∷ []) among)
+
+told_last : (es a t : List Entry) (e : Entry) → StandAmong es (a ++ t) → StandAmong (es ++ e ∷ []) (a ++ (t ++ e ∷ []))
+told_last es a t e among = subst (StandAmong (es ++ e ∷ [])) (append_assoc a t (e ∷ [])) (among_join es (e ∷ []) (a ++ t) (e ∷ []) among (among_self (e ∷ [])))
 
 module _ {D : Type 0} {ghosts : Ghosts D} where
   -- ---- what lines have answered
@@ -45,17 +57,87 @@ module _ {D : Type 0} {ghosts : Ghosts D} where
   reply_among (Ok Blank) bytes old new done = tt
   reply_among (Ok (Command command)) bytes old new done =
       let e = command_entry 0 command done.reply in
-      subst (λ (ms : List Move). StandAmong (e ∷ []) (answered ms)) (sym done.made.last) (among_after (answered done.made.earlier) (e ∷ []))
+      subst (λ (ms : List Move). StandAmong (e ∷ []) (answered ms)) (sym done.made.last)
+      (among_trans (e ∷ []) (taken done.made.earlier ++ e ∷ []) (answered (answers 0 command done.reply ∷ done.made.earlier)) (among_after (taken done.made.earlier) (e ∷ []))
+      (among_after (answered done.made.earlier) (taken done.made.earlier ++ e ∷ [])))
   reply_among (Ok (Run count)) bytes old new done = tt
   reply_among (Err fault) bytes old new done = tt
 
-  replies_among : (ls : List (List ℕ)) (first last : Book D ghosts) (turns : AreAnsweredInTurn ls first last)
-      → StandAmong (replies_in_turn ls first last turns) (answered (moves_in_turn ls first last turns))
+  -- one call more takes nothing of it away
+  told_step : (move : Move) (moves : List Move) (es : List Entry) (old new : Book D ghosts) → IsCall move old new → StandAmong es (told moves) → StandAmong es (told (move ∷ moves))
+  told_step (answers who command reply) moves es old new is among =
+      let e = command_entry who command reply in
+      subst (StandAmong es) (sym (append-nil (answered moves ++ (taken moves ++ e ∷ [])))) (told_one es (answered moves) (taken moves) e among)
+  told_step (takes who command reply) moves es old new is among = told_one es (answered moves) (taken moves) (command_entry who command reply) among
+  told_step keeps moves es old new is among = subst (StandAmong es) (sym (append-nil (answered moves ++ taken moves))) among
+  told_step (fails who command reply) moves es old new is among = among
+  told_step (rounds name reply) moves es old new is among = among
+  told_step stays moves es old new is among = among
+  told_step opens moves es old new is among = absurd is.page
+  told_step (refuses cause) moves es old new is among = absurd is.page
+  told_step closes moves es old new is among = absurd is.page
+  told_step (stops move) moves es old new is among = absurd is.page
+
+  pub told_more : (later moves : List Move) (es : List Entry) (old new : Book D ghosts) → Calls {ghosts = ghosts} later old new → StandAmong es (told moves) → StandAmong es (told (later ++ moves))
+  told_more [] moves es old new calls among = among
+  told_more (move ∷ later) moves es old new calls among = told_step move (later ++ moves) es calls.0 new calls.2 (told_more later moves es old calls.0 calls.1 among)
+
+  told_taken : (command : Asked) (reply : Reply) (own earlier moves : List Move) (es : List Entry) (old new : Book D ghosts) → Calls {ghosts = ghosts} own old new
+      → (own ≡ takes 0 command reply ∷ earlier) ⊎ (own ≡ answers 0 command reply ∷ earlier) → StandAmong es (told moves)
+      → StandAmong (es ++ command_entry 0 command reply ∷ []) (told (own ++ moves))
+  told_taken command reply own earlier moves es old new calls (inl same) among =
+      let e = command_entry 0 command reply in
+      let run : Calls {ghosts = ghosts} (takes 0 command reply ∷ earlier) old new = subst (λ (ms : List Move). Calls {ghosts = ghosts} ms old new) same calls in
+      subst (λ (ms : List Move). StandAmong (es ++ e ∷ []) (told (ms ++ moves))) (sym same)
+      (told_last es (answered (earlier ++ moves)) (taken (earlier ++ moves)) e (told_more earlier moves es old run.0 run.1 among))
+  told_taken command reply own earlier moves es old new calls (inr same) among =
+      let e = command_entry 0 command reply in
+      let run : Calls {ghosts = ghosts} (answers 0 command reply ∷ earlier) old new = subst (λ (ms : List Move). Calls {ghosts = ghosts} ms old new) same calls in
+      let all = earlier ++ moves in
+      subst (λ (ms : List Move). StandAmong (es ++ e ∷ []) (told (ms ++ moves))) (sym same)
+      (subst (StandAmong (es ++ e ∷ [])) (sym (append-nil (answered all ++ (taken all ++ e ∷ []))))
+      (told_last es (answered all) (taken all) e (told_more earlier moves es old run.0 run.1 among)))
+
+  taken_among : (cs : List Asked) (bytes : List ℕ) (first last : Book D ghosts) (is : AreTaken cs bytes first last) (moves : List Move) (es : List Entry) → StandAmong es (told moves)
+      → StandAmong (es ++ replies_taken cs bytes first last is) (told (moves_taken cs bytes first last is ++ moves))
+  taken_among [] bytes first last is moves es among =
+      subst (λ (xs : List Entry). StandAmong xs (told (is.2.moves ++ moves))) (sym (append-nil es)) (told_more is.2.moves moves es first last is.2.calls among)
+  taken_among (c ∷ cs) bytes first last is moves es among =
+      let t = is.4 in
+      let e = command_entry 0 c t.reply in
+      let own = t.done.moves in
+      let later = moves_taken cs is.2 is.0 last is.5 in
+      let more = replies_taken cs is.2 is.0 last is.5 in
+      let one = told_taken c t.reply own t.earlier moves es first is.0 t.done.calls t.last among in
+      let all = taken_among cs is.2 is.0 last is.5 (own ++ moves) (es ++ e ∷ []) one in
+      subst (λ (xs : List Entry). StandAmong xs (told ((later ++ own) ++ moves))) (append_assoc es (e ∷ []) more)
+      (subst (λ (ms : List Move). StandAmong ((es ++ e ∷ []) ++ more) (told ms)) (sym (append_assoc later own moves)) all)
+
+  -- before the keep of a group its commands were taken
+  pub group_taken : (ls : List (List ℕ)) (bytes : List ℕ) (old new : Book D ghosts) (g : IsGroupAnswered ls bytes old new)
+      → StandAmong (replies_at_once ls bytes old new (by_group g)) (told (g.kept.earlier ++ moves_taken g.commands bytes old g.between g.taken))
+  group_taken ls bytes old new g =
+      let own = moves_taken g.commands bytes old g.between g.taken in
+      let run : Calls {ghosts = ghosts} (keeps ∷ g.kept.earlier) g.between new = subst (λ (ms : List Move). Calls {ghosts = ghosts} ms g.between new) g.kept.last g.kept.done.calls in
+      let first : StandAmong (replies_at_once ls bytes old new (by_group g)) (told own) =
+      subst (λ (ms : List Move). StandAmong (replies_at_once ls bytes old new (by_group g)) (told ms)) (append-nil own)
+      (taken_among g.commands bytes old g.between g.taken [] [] tt) in
+      told_more g.kept.earlier own (replies_at_once ls bytes old new (by_group g)) g.between run.0 run.1 first
+
+  at_once_among : (ls : List (List ℕ)) (bytes : List ℕ) (old new : Book D ghosts) (is : AreAnsweredAtOnce ls bytes old new)
+      → StandAmong (replies_at_once ls bytes old new is) (answered (moves_at_once ls bytes old new is))
+  at_once_among ls bytes old new (by_line line one is) = reply_among is.reading bytes old new is.done
+  at_once_among ls bytes old new (by_group g) =
+      let own = moves_taken g.commands bytes old g.between g.taken in
+      subst (λ (ms : List Move). StandAmong (replies_at_once ls bytes old new (by_group g)) (answered (ms ++ own))) (sym g.kept.last) (group_taken ls bytes old new g)
+
+  replies_among : (groups : List (List (List ℕ))) (first last : Book D ghosts) (turns : AreAnsweredInTurn groups first last)
+      → StandAmong (replies_in_turn groups first last turns) (answered (moves_in_turn groups first last turns))
   replies_among [] first last turns = tt
-  replies_among (line ∷ ls) first last turns =
-      among_moves (reply_for turns.2.reading turns.1 first turns.0 turns.2.done) (replies_in_turn ls turns.0 last turns.3)
-      (moves_in_turn ls turns.0 last turns.3) (calls_for turns.2.reading turns.1 first turns.0 turns.2.done).moves
-      (reply_among turns.2.reading turns.1 first turns.0 turns.2.done) (replies_among ls turns.0 last turns.3)
+  replies_among (group ∷ groups) first last turns =
+      among_moves (replies_at_once group turns.1 first turns.0 turns.2) (replies_in_turn groups turns.0 last turns.3)
+      (moves_in_turn groups turns.0 last turns.3) (moves_at_once group turns.1 first turns.0 turns.2)
+      (at_once_among group turns.1 first turns.0 turns.2) (replies_among groups turns.0 last turns.3)
 
   -- ---- of parts
 
@@ -78,15 +160,16 @@ module _ {D : Type 0} {ghosts : Ghosts D} where
 
   -- ---- a call is a serving
 
-  pub call_serves : (old new : Book D ghosts) (result : Result (Unit {0}) ServeFault) (ls : List (List ℕ)) (before after : Option (List ℕ))
-      (serves : IsServing result ls old new before after) (front more : List (List ℕ)) → serves.front ≡ front ++ more
+  pub call_serves : (old new : Book D ghosts) (most : ℕ) (result : Result (Unit {0}) ServeFault) (ls : List (List ℕ)) (before after : Option (List ℕ))
+      (serves : IsServing most result ls old new before after) (front more : List (List (List ℕ))) → serves.turns.groups ≡ front ++ more
       → (serving : Serving ghosts) × (serving.old ≡ old) × (serving.new ≡ new) × (serving.ls ≡ ls) × (serving.result ≡ result) × (serving.front ≡ front)
-  call_serves old new result ls before after serves front more parted =
+  call_serves old new most result ls before after serves front more parted =
       let between = serves.turns.between in
-      let split = turns_split front more old between (subst (λ (xs : List (List ℕ)). AreAnsweredInTurn xs old between) parted serves.turns.answered) in (
+      let split = turns_split front more old between (subst (λ (xs : List (List (List ℕ))). AreAnsweredInTurn xs old between) parted serves.turns.answered) in (
         record {
           old = old;
           new = new;
+          most = most;
           result = result;
           ls = ls;
           before = before;

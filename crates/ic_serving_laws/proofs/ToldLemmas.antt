@@ -1,5 +1,6 @@
 -- What lines and parts tell of commands.
-use Rattle.std.proofs.Common.{◌≡◌, ℕ, List, [], ◌∷◌, ◌++◌, Ok, Err, refl, sym, ap, subst, ◌∙◌, append-nil, append_assoc}
+use Rattle.std.specs.Prelude.{flat_map}
+use Rattle.std.proofs.Common.{◌≡◌, ℕ, List, [], ◌∷◌, ◌++◌, Ok, Err, refl, sym, ap, ap₂, subst, ◌∙◌, append-nil, append_assoc}
 use Rattle.ic_disk.specs.declared.disk.Disk.{Ghosts}
 use Rattle.ic_jobs.specs.declared.command.Command.{Command}
 use Rattle.ic_jobs.specs.declared.event.Entry.{Entry}
@@ -11,10 +12,23 @@ use Rattle.ic_lines.specs.Answers.{Reading}
 use Rattle.ic_lines.specs.Lines.{ended as line_of}
 use Rattle.ic_book.specs.declared.book.Book.{Book}
 use Rattle.ic_book.specs.Entries.{command_entry}
-use Rattle.ic_serving.specs.Answered.{IsDoneFor}
-use Rattle.ic_serving.specs.InTurn.{AreAnsweredInTurn, reply_for, replies_in_turn}
+use Rattle.ic_serving.specs.Answered.{AreAnsweredAtOnce, AreTaken, AskFor, IsAnswered, IsDoneFor, by_group, by_line}
+use Rattle.ic_serving.specs.InTurn.{AreAnsweredInTurn, reply_for, replies_at_once, replies_in_turn, replies_taken}
 use Rattle.ic_lives.specs.Histories.{answered}
-use Rattle.ic_serving_laws.specs.Servings.{IsAnsweredBetween, Part, ended, stopped, other, line_replies, answered_by}
+use Rattle.ic_serving_laws.specs.Servings.{IsAnsweredBetween, Part, ended, stopped, other, entries_of, line_replies, answered_by}
+use Rattle.ic_serving_laws.proofs.PartLemmas.{OneWay}
+
+-- lines ask for just one list of commands
+asks_one : OneWay → (ls : List (List ℕ)) (cs ds : List Command) → AskFor ls cs → AskFor ls ds → cs ≡ ds
+asks_one law [] [] [] a b = refl
+asks_one law [] (c ∷ cs) ds a b = absurd a
+asks_one law [] [] (d ∷ ds) a b = absurd b
+asks_one law (l ∷ ls) [] ds a b = absurd a
+asks_one law (l ∷ ls) (c ∷ cs) [] a b = absurd b
+asks_one law (l ∷ ls) (c ∷ cs) (d ∷ ds) a b =
+    let both : Ok (Asks c) ≡ Ok (Asks d) = law l (Ok (Asks c)) (Ok (Asks d)) a.0 b.0 in
+    let same : c ≡ d = cc in
+    ap₂ (λ (x : Command) (xs : List Command). x ∷ xs) same (asks_one law ls cs ds a.1 b.1)
 
 module _ {D : Type 0} {ghosts : Ghosts D} where
   -- ---- what lines tell
@@ -32,48 +46,87 @@ module _ {D : Type 0} {ghosts : Ghosts D} where
   no_entry (Ok (Run count)) bytes old new done none = refl
   no_entry (Err fault) bytes old new done none = refl
 
-  record RepliesAt (front back : List (List ℕ)) (line : List ℕ) (first last : Book D ghosts) (turns : AreAnsweredInTurn (front ++ line ∷ back) first last) : Type 0 where
-    here : IsAnsweredBetween front line back first last
-    replies : replies_in_turn (front ++ line ∷ back) first last turns ≡ replies_in_turn front first here.before here.in_front
-        ++ (reply_for here.answered.reading here.bytes here.before here.after here.answered.done ++ replies_in_turn back here.after last here.later)
+  record RepliesAt (front back : List (List (List ℕ))) (group : List (List ℕ)) (first last : Book D ghosts) (turns : AreAnsweredInTurn (front ++ group ∷ back) first last) : Type 0 where
+    here : IsAnsweredBetween front group back first last
+    replies : replies_in_turn (front ++ group ∷ back) first last turns ≡ replies_in_turn front first here.before here.in_front
+        ++ (replies_at_once group here.bytes here.before here.after here.answered ++ replies_in_turn back here.after last here.later)
 
-  replies_at : (front back : List (List ℕ)) (line : List ℕ) (first last : Book D ghosts) (turns : AreAnsweredInTurn (front ++ line ∷ back) first last) → RepliesAt front back line first last turns
-  replies_at [] back line first last turns = record {
+  replies_at : (front back : List (List (List ℕ))) (group : List (List ℕ)) (first last : Book D ghosts) (turns : AreAnsweredInTurn (front ++ group ∷ back) first last)
+      → RepliesAt front back group first last turns
+  replies_at [] back group first last turns = record {
     here = record { before = first; after = turns.0; bytes = turns.1; in_front = refl; answered = turns.2; later = turns.3 };
     replies = refl;
   }
-  replies_at (one ∷ front) back line first last turns =
-      let rest = replies_at front back line turns.0 last turns.3 in
+  replies_at (one ∷ front) back group first last turns =
+      let rest = replies_at front back group turns.0 last turns.3 in
       let at = rest.here in
-      let own = reply_for turns.2.reading turns.1 first turns.0 turns.2.done in
+      let own = replies_at_once one turns.1 first turns.0 turns.2 in
       record {
         here = record { before = at.before; after = at.after; bytes = at.bytes; in_front = (turns.0, turns.1, turns.2, at.in_front); answered = at.answered; later = at.later };
         replies = ap (λ (es : List Entry). own ++ es) rest.replies ∙ sym (append_assoc own (replies_in_turn front turns.0 at.before at.in_front)
-            (reply_for at.answered.reading at.bytes at.before at.after at.answered.done ++ replies_in_turn back at.after last at.later));
+            (replies_at_once group at.bytes at.before at.after at.answered ++ replies_in_turn back at.after last at.later));
       }
 
-  pub command_told : ((text : List ℕ) (a b : Reading) → ReadsLine text a → ReadsLine text b → a ≡ b) → (front back : List (List ℕ)) (line : List ℕ) (command : Command)
-      (first last : Book D ghosts) (turns : AreAnsweredInTurn (front ++ line ∷ back) first last) → ReadsLine line (Ok (Asks command))
-      → (here : IsAnsweredBetween front line back first last) × (reply : Reply) × (here.bytes ≡ line_of (reply_text reply))
-      × (replies_in_turn (front ++ line ∷ back) first last turns
-      ≡ replies_in_turn front first here.before here.in_front ++ command_entry 0 command reply ∷ replies_in_turn back here.after last here.later)
-  command_told one front back line command first last turns reads =
-      let is = replies_at front back line first last turns in
+  -- the commands that are taken, with their replies
+  taken_told : (cs : List Command) (bytes : List ℕ) (first last : Book D ghosts) (is : AreTaken cs bytes first last)
+      → (replies : List Reply) × (bytes ≡ flat_map (λ (reply : Reply). line_of (reply_text reply)) replies) × (replies_taken cs bytes first last is ≡ entries_of cs replies)
+  taken_told [] bytes first last is = ([], is.0, refl)
+  taken_told (c ∷ cs) bytes first last is =
+      let rest = taken_told cs is.2 is.0 last is.5 in (
+        is.4.reply ∷ rest.0,
+        is.3 ∙ ap₂ (λ (a b : List ℕ). a ++ b) is.4.text rest.1,
+        ap (λ (es : List Entry). command_entry 0 c is.4.reply ∷ es) rest.2,
+      )
+
+  one_told : OneWay → (line bytes : List ℕ) (cs : List Command) (old new : Book D ghosts) (is : IsAnswered line bytes old new) → AskFor (line ∷ []) cs
+      → (replies : List Reply) × (bytes ≡ flat_map (λ (reply : Reply). line_of (reply_text reply)) replies) × (reply_for is.reading bytes old new is.done ≡ entries_of cs replies)
+  one_told law line bytes [] old new is asks = absurd asks
+  one_told law line bytes (c ∷ d ∷ cs) old new is asks = absurd asks.1
+  one_told law line bytes (c ∷ []) old new is asks =
+      let own = one_entry is.reading bytes old new is.done c (law line is.reading (Ok (Asks c)) is.read asks.0) in
+      (own.0 ∷ [], own.1 ∙ sym (append-nil (line_of (reply_text own.0))), own.2)
+
+  at_once_told : OneWay → (group : List (List ℕ)) (bytes : List ℕ) (cs : List Command) (old new : Book D ghosts) (is : AreAnsweredAtOnce group bytes old new) → AskFor group cs
+      → (replies : List Reply) × (bytes ≡ flat_map (λ (reply : Reply). line_of (reply_text reply)) replies) × (replies_at_once group bytes old new is ≡ entries_of cs replies)
+  at_once_told law group bytes cs old new (by_line line one is) asks = one_told law line bytes cs old new is (subst (λ (ls : List (List ℕ)). AskFor ls cs) one asks)
+  at_once_told law group bytes cs old new (by_group g) asks =
+      let own = taken_told g.commands bytes old g.between g.taken in
+      (own.0, own.1, own.2 ∙ ap (λ (ds : List Command). entries_of ds own.0) (asks_one law group g.commands cs g.asked asks))
+
+  pub command_told : OneWay → (front back : List (List (List ℕ))) (group : List (List ℕ)) (commands : List Command)
+      (first last : Book D ghosts) (turns : AreAnsweredInTurn (front ++ group ∷ back) first last) → AskFor group commands
+      → (here : IsAnsweredBetween front group back first last) × (replies : List Reply) × (here.bytes ≡ flat_map (λ (reply : Reply). line_of (reply_text reply)) replies)
+      × (replies_in_turn (front ++ group ∷ back) first last turns
+      ≡ replies_in_turn front first here.before here.in_front ++ (entries_of commands replies ++ replies_in_turn back here.after last here.later))
+  command_told law front back group commands first last turns asks =
+      let is = replies_at front back group first last turns in
       let at = is.here in
-      let own = one_entry at.answered.reading at.bytes at.before at.after at.answered.done command (one line at.answered.reading (Ok (Asks command)) at.answered.read reads) in (
+      let own = at_once_told law group at.bytes commands at.before at.after at.answered asks in (
         at,
         own.0,
         own.1,
         is.replies ∙ ap (λ (es : List Entry). replies_in_turn front first at.before at.in_front ++ (es ++ replies_in_turn back at.after last at.later)) own.2,
       )
 
-  pub other_told : (front back : List (List ℕ)) (line : List ℕ) (first last : Book D ghosts) (turns : AreAnsweredInTurn (front ++ line ∷ back) first last)
-      → ((command : Command) → ¬ ReadsLine line (Ok (Asks command))) → (here : IsAnsweredBetween front line back first last)
-      × (replies_in_turn (front ++ line ∷ back) first last turns ≡ replies_in_turn front first here.before here.in_front ++ replies_in_turn back here.after last here.later)
+  -- a line that asks for no command tells none
+  none_told : (group : List (List ℕ)) (line bytes : List ℕ) (old new : Book D ghosts) (is : AreAnsweredAtOnce group bytes old new) → group ≡ line ∷ []
+      → ((command : Command) → ¬ ReadsLine line (Ok (Asks command))) → replies_at_once group bytes old new is ≡ []
+  none_told group line bytes old new (by_line text one is) same none =
+      let alike : text ≡ line = cc in
+      no_entry is.reading bytes old new is.done (λ command reads. none command (subst (λ (l : List ℕ). ReadsLine l (Ok (Asks command))) alike (subst (λ (r : Reading). ReadsLine text r) reads is.read)))
+  none_told group line bytes old new (by_group g) same none = no_command g.commands bytes old g.between g.taken (subst (λ (ls : List (List ℕ)). AskFor ls g.commands) same g.asked)
+    where
+      no_command : (cs : List Command) (xs : List ℕ) (first last : Book D ghosts) (taken : AreTaken cs xs first last) → AskFor (line ∷ []) cs → replies_taken cs xs first last taken ≡ []
+      no_command [] xs first last taken asks = refl
+      no_command (c ∷ cs) xs first last taken asks = absurd (none c asks.0)
+
+  pub other_told : (front back : List (List (List ℕ))) (line : List ℕ) (first last : Book D ghosts) (turns : AreAnsweredInTurn (front ++ (line ∷ []) ∷ back) first last)
+      → ((command : Command) → ¬ ReadsLine line (Ok (Asks command))) → (here : IsAnsweredBetween front (line ∷ []) back first last)
+      × (replies_in_turn (front ++ (line ∷ []) ∷ back) first last turns ≡ replies_in_turn front first here.before here.in_front ++ replies_in_turn back here.after last here.later)
   other_told front back line first last turns none =
-      let is = replies_at front back line first last turns in
+      let is = replies_at front back (line ∷ []) first last turns in
       let at = is.here in
-      let own = no_entry at.answered.reading at.bytes at.before at.after at.answered.done (λ command same. none command (subst (λ (r : Reading). ReadsLine line r) same at.answered.read)) in (
+      let own = none_told (line ∷ []) line at.bytes at.before at.after at.answered refl none in (
         at,
         is.replies ∙ ap (λ (es : List Entry). replies_in_turn front first at.before at.in_front ++ (es ++ replies_in_turn back at.after last at.later)) own,
       )

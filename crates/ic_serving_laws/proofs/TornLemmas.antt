@@ -19,14 +19,14 @@ all_follow _ _ all = absurd all
 
 -- however it is torn, scripts were followed
 pub torn_follows : {D : Type 0} {ghosts : Ghosts D} (opening : List JobParts) (scripts : List (List Command)) (runners turns workers : ℕ) (a : Attended D ghosts)
-    → BeganOtherwise opening scripts runners workers a ⊎ Differs opening scripts runners turns workers a → AreFollowed scripts runners workers a
+    → BeganOtherwise opening scripts runners turns workers a ⊎ Differs opening scripts runners turns workers a → AreFollowed scripts runners turns workers a
 torn_follows opening scripts runners turns workers a (inl is) = is.followed
 torn_follows opening scripts runners turns workers a (inr is) =
     record { followed = all_follow scripts a.answers.items is.scripts_kept; counted = is.counted; may_be = is.may_be }
 
 -- it differs, where the book began as it had to
 pub torn_differs : {D : Type 0} {ghosts : Ghosts D} (opening : List JobParts) (scripts : List (List Command)) (runners turns workers : ℕ) (a : Attended D ghosts)
-    → BeganOtherwise opening scripts runners workers a ⊎ Differs opening scripts runners turns workers a → start_of a.book ≡ opening
+    → BeganOtherwise opening scripts runners turns workers a ⊎ Differs opening scripts runners turns workers a → start_of a.book ≡ opening
     → Differs opening scripts runners turns workers a
 torn_differs opening scripts runners turns workers a (inl is) same = absurd (is.other same)
 torn_differs opening scripts runners turns workers a (inr is) same = is

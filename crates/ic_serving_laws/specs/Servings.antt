@@ -1,43 +1,54 @@
 -- Servings of lines and other moves of a server, one after the other.
 use Rattle.std.specs.Prelude.{◌≡◌, ℕ, List, [], ◌∷◌, ◌++◌, Option, Result}
 use Rattle.ic_disk.specs.declared.disk.Disk.{Ghosts}
+use Rattle.ic_jobs.specs.declared.command.Command.{Command}
 use Rattle.ic_jobs.specs.declared.event.Entry.{Entry}
+use Rattle.ic_jobs.specs.declared.reply.Reply.{Reply}
+use Rattle.ic_book.specs.Entries.{command_entry}
 use Rattle.ic_book.specs.declared.book.Book.{Book}
 use Rattle.ic_book.specs.Book.{disk_of}
 use Rattle.ic_book.specs.ByCalls.{IsByCalls}
 use Rattle.ic_book.specs.Moves.{Move}
 use Rattle.ic_book.specs.Server.{Server, down, up, IsFound, Runs}
 use Rattle.ic_serving.specs.declared.fault.ServeFault.{ServeFault}
-use Rattle.ic_serving.specs.Answered.{IsAnswered}
+use Rattle.ic_serving.specs.Answered.{AreAnsweredAtOnce}
 use Rattle.ic_serving.specs.InTurn.{AreAnsweredInTurn, moves_in_turn, replies_in_turn}
 use Rattle.ic_serving.specs.Serving.{IsServing}
 use Rattle.ic_lives.specs.Histories.{answered}
 use Rattle.ic_serving_laws.specs.Served.{IsCutShort}
 
--- A line was answered between others: those in front of it led to the book `before`, and those after
--- it on from the book `after`.
-pub record IsAnsweredBetween {D : Type 0} {ghosts : Ghosts D} (front : List (List ℕ))
-    (line : List ℕ) (back : List (List ℕ)) (first last : Book D ghosts) : Type 0 where
+-- the entries of these commands with these replies
+abbrev pub entries_of : List Command → List Reply → List Entry
+entries_of [] replies = []
+entries_of (command ∷ commands) [] = []
+entries_of (command ∷ commands) (reply ∷ replies) =
+    command_entry 0 command reply ∷ entries_of commands replies
+
+-- A group of lines was answered between others: those in front of it led to the book `before`, and those
+-- after it on from the book `after`.
+pub record IsAnsweredBetween {D : Type 0} {ghosts : Ghosts D} (front : List (List (List ℕ)))
+    (group : List (List ℕ)) (back : List (List (List ℕ))) (first last : Book D ghosts) : Type 0 where
   pub before : Book D ghosts
   pub after : Book D ghosts
   pub bytes : List ℕ
   pub in_front : AreAnsweredInTurn front first before
-  pub answered : IsAnswered line bytes before after
+  pub answered : AreAnsweredAtOnce group bytes before after
   pub later : AreAnsweredInTurn back after last
 
--- A serving is what a call of `serve_lines` says of its two books, or would say. Some of the lines
--- that it answers come first, and lead to the book `answering`; the others lead on from there.
+-- A serving is what a call of `serve_lines` says of its two books, or would say. Some of the groups of
+-- lines that it answers come first, and lead to the book `answering`; the others lead on from there.
 pub record Serving {D : Type 0} (ghosts : Ghosts D) : Type 0 where
   pub old : Book D ghosts
   pub new : Book D ghosts
+  pub most : ℕ
   pub result : Result (Unit {0}) ServeFault
   pub ls : List (List ℕ)
   pub before : Option (List ℕ)
   pub after : Option (List ℕ)
-  pub serves : IsServing result ls old new before after
-  pub front : List (List ℕ)
-  pub more : List (List ℕ)
-  pub parted : serves.front ≡ front ++ more
+  pub serves : IsServing most result ls old new before after
+  pub front : List (List (List ℕ))
+  pub more : List (List (List ℕ))
+  pub parted : serves.turns.groups ≡ front ++ more
   pub answering : Book D ghosts
   pub first_lines : AreAnsweredInTurn front old answering
   pub other_lines : AreAnsweredInTurn more answering serves.turns.between

@@ -42,17 +42,17 @@ use ic_attend::Attended;
 use ic_book::Book;
 use ic_disk::Disk;
 
-/// Where a runner ended idle, nothing is due any more. Where one has used up its turns, the history
-/// has at least so many rounds.
+/// Where a runner ended idle, nothing is due any more. One that has used up its turns took just so many
+/// rounds, and the history has at least these.
 pub fn runners_end_where_nothing_is_due<D: Disk>(attended: &Attended<D>)
     ensures idle { (scripts : List (List Command)) (runners turns k after : ℕ)
         → IsOneHistory scripts runners turns attended.now
         → slice_get attended.now.ends.items k ≡ Some Idle
         → due (table_of attended.now.book) after ≡ None }
-    ensures turns { (scripts : List (List Command)) (runners turns k : ℕ)
+    ensures turns { (scripts : List (List Command)) (runners turns k taken : ℕ)
         → IsOneHistory scripts runners turns attended.now
-        → slice_get attended.now.ends.items k ≡ Some Turns
-        → turns ≤ count_by (λ e. is_round e.event) (log_of attended.now.book) }
+        → slice_get attended.now.ends.items k ≡ Some (Turns taken)
+        → (taken ≡ turns) × (taken ≤ count_by (λ e. is_round e.event) (log_of attended.now.book)) }
 {
     let _ = attended;
     ic_jobs::laws::due_is_the_next_running_job();
@@ -142,20 +142,20 @@ pub fn what_is_not_attended_is_said<D: Disk>(disk: &D, attended: &Attended<D>)
     ensures counted { (fault : OpenFault D) → IsUnopened D.Disk disk.now fault
         → CountsOpen {T = Unit {0}} (Err fault.cause)
         (D.failures disk.now) (D.failures fault.disk) }
-    ensures stopped { (scripts : List (List Command)) (runners workers : ℕ)
-        → IsStopped D.Disk disk.now scripts runners workers attended.now
+    ensures stopped { (scripts : List (List Command)) (runners turns workers : ℕ)
+        → IsStopped D.Disk disk.now scripts runners turns workers attended.now
         → AllZip Follows scripts attended.now.answers.items
         × (length attended.now.ends.items ≡ runners)
-        × All (EndMayBe workers) attended.now.ends.items }
-    ensures began { (scripts : List (List Command)) (runners workers : ℕ)
-        → IsStopped D.Disk disk.now scripts runners workers attended.now
+        × All (EndMayBe turns workers) attended.now.ends.items }
+    ensures began { (scripts : List (List Command)) (runners turns workers : ℕ)
+        → IsStopped D.Disk disk.now scripts runners turns workers attended.now
         → IsTrue (D.keeps disk.now)
         → IsHeld (the_table (start_of attended.now.book)) (D.content disk.now) }
     ensures torn { (scripts : List (List Command)) (runners turns workers : ℕ)
         → IsTorn D.Disk disk.now scripts runners turns workers attended.now
         → AllZip Follows scripts attended.now.answers.items
         × (length attended.now.ends.items ≡ runners)
-        × All (EndMayBe workers) attended.now.ends.items }
+        × All (EndMayBe turns workers) attended.now.ends.items }
     ensures kept_to { (scripts : List (List Command)) (runners turns workers : ℕ)
         → IsTorn D.Disk disk.now scripts runners turns workers attended.now
         → IsTrue (D.keeps disk.now)
@@ -210,7 +210,7 @@ pub fn scripts_without_a_history_say_why<D: Disk>(disk: &D, left: &D)
         × (left.now ≡ fault.disk) }
     ensures stopped { (scripts : List (List Command)) (runners turns workers : ℕ)
         → SaysWhy D.Disk disk.now scripts runners turns workers left.now NoThread
-        → (a : AttendedOver D.Disk) × IsStopped D.Disk disk.now scripts runners workers a
+        → (a : AttendedOver D.Disk) × IsStopped D.Disk disk.now scripts runners turns workers a
         × (left.now ≡ disk_of a.book) }
     ensures torn { (scripts : List (List Command)) (runners turns workers : ℕ)
         → SaysWhy D.Disk disk.now scripts runners turns workers left.now Torn

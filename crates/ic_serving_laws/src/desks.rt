@@ -16,7 +16,7 @@ ghost use Rattle.ic_book.specs.declared.fault.BookFault.{BookFault};
 ghost use Rattle.ic_book.specs.declared.fault.BookFault.TheVariants.{Broken, LogFull, Worn, Memory};
 ghost use Rattle.ic_book.specs.Book.{IsUnchanged, disk_of, is_broken, keeper_of, kept_of, log_of, number_of, start_of, table_of};
 ghost use Rattle.ic_book.specs.Entries.{Adds, leaves_table, round_entry};
-ghost use Rattle.ic_book.specs.Kept.{HoldsKeptOrAll};
+ghost use Rattle.ic_book.specs.Left.{HoldsKeptOrAll};
 ghost use Rattle.ic_attend.specs.Desk.{IsCommanded, IsLanded, IsTaken};
 
 use ic_disk::Disk;

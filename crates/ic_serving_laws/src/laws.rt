@@ -38,8 +38,8 @@ ghost use Rattle.ic_serving.specs.Booked.{last_kept, unkept_of, IsAllKept};
 ghost use Rattle.ic_serving.specs.Faults.{fault_of_line, ComesAlone, ComesBroken, ComesInLine, ComesUnmade, ComesWithoutRound, MayCome, CountsServe, StaysReady};
 ghost use Rattle.ic_serving.specs.Grown.{GoesOn, GoesOnWithin, HasRoom};
 ghost use Rattle.ic_serving.specs.Moments.{Leaves, IsKeptInLine};
-ghost use Rattle.ic_serving.specs.Parts.{IsBeforeRound, IsPart, IsKeptWithin, IsInLine, IsInFirst};
-ghost use Rattle.ic_serving.specs.Served.{OfLines, MayBeServed, AreAnswered, AppendsFront, SaysOf, IsLeftBy, IsEnded, IsCut};
+ghost use Rattle.ic_serving.specs.Parts.{IsBeforeRound, IsPart, IsKeptWithin, IsInFew, IsInLine, IsInFirst};
+ghost use Rattle.ic_serving.specs.Served.{OfLines, IsReadOut, MayBeServed, AreAnswered, AppendsFront, SaysOf, IsLeftBy, IsEnded, IsCut};
 ghost use Rattle.ic_serving.specs.Serving.{IsServing};
 ghost use Rattle.ic_serving.specs.Stopped.{IsReached, MayStand};
 
@@ -104,12 +104,14 @@ pub fn tables_within_a_line_are()
 }
 
 /// What is said of a reader's lines is said of those of its bytes, where it tells them, and of some
-/// lines where it doesn't.
+/// lines where it doesn't. Bytes that it tells are read out where none are left.
 pub fn lines_are_those_of_the_reader()
     ensures known { (text : List ℕ) (p : List (List ℕ) → Bool)
         → OfLines (Some text) (λ ls. p ls ≡ true) ↔ (p (lines text) ≡ true) }
     ensures unknown { (p : List (List ℕ) → Bool)
         → OfLines None (λ ls. p ls ≡ true) ↔ ((ls : List (List ℕ)) × (p ls ≡ true)) }
+    ensures read_out { (text : List ℕ) (new : Option (List ℕ))
+        → IsReadOut (Some text) new → new ≡ Some [] }
 {}
 
 /// Lines that are answered are at most 1,000,000, each of at most 262,144 bytes. What answers them
@@ -166,38 +168,47 @@ pub fn faults_say()
         ≡ Read ∷ Write ∷ LongLine ∷ Memory ∷ [] }
 {}
 
-/// Whatever fault ends a serving, the table is within the next line; and where that line wasn't
-/// taken, the table is the one that the lines before it leave.
+/// Whatever fault ends a serving, the table is within one of the next lines, of at most so many; and
+/// where no line was taken, the table is the one that the lines before them leave. Where a group is one
+/// line, it is within the next.
 pub fn faults_leave()
-    ensures within { (fault : ServeFault) (t u : List JobParts) (ls : List (List ℕ))
-        → IsLeftBy fault t ls u → IsInFirst t ls u }
-    ensures untaken { (t u : List JobParts) (ls : List (List ℕ))
-        → AllByRecursion (λ fault. IsLeftBy fault t ls u → u ≡ t)
+    ensures within { (fault : ServeFault) (most : ℕ) (t u : List JobParts) (ls : List (List ℕ))
+        → 1 ≤ most → IsLeftBy fault most t ls u → IsInFew most t ls u }
+    ensures few { (most : ℕ) (t u : List JobParts) (ls : List (List ℕ)) → IsInFew most t ls u
+        → (front : List (List ℕ)) × (rest : List (List ℕ)) × (answers : List ℕ)
+        × (v : List JobParts) × (ls ≡ front ++ rest) × (length front < most)
+        × IsServed t front answers v × IsInFirst v rest u }
+    ensures one { (t u : List JobParts) (ls : List (List ℕ)) → IsInFew 1 t ls u
+        → IsInFirst t ls u }
+    ensures untaken { (most : ℕ) (t u : List JobParts) (ls : List (List ℕ))
+        → AllByRecursion (λ fault. IsLeftBy fault most t ls u → u ≡ t)
         (Read ∷ LongLine ∷ TooManyLines ∷ []) }
 {
     ic_commands::laws::one_line_reading();
 }
 
-/// A fault ends a serving after a front of the lines, which are answered. The table is within the
-/// line after them, as is the one that was kept last, where all was kept when it began.
+/// A fault ends a serving after a front of the lines, which are answered. The table is within the group
+/// of at most so many lines after them, as is the one that was kept last, where all was kept when it
+/// began.
 pub fn a_fault_ends_a_serving()
-    ensures within { (fault : ServeFault) (all : Bool) (front rest : List (List ℕ))
+    ensures within { (fault : ServeFault) (most : ℕ) (all : Bool) (front rest : List (List ℕ))
         (t u kept : List JobParts) (old new : Option (List ℕ))
-        → IsEnded fault (all ≡ true) front rest t u kept old new
+        → 1 ≤ most → IsEnded fault most (all ≡ true) front rest t u kept old new
         → (answers : List ℕ) × (v : List JobParts) × IsServed t front answers v
-        × Appends old new answers × IsInFirst v rest u × (all ≡ true → IsInFirst v rest kept) }
-    ensures read { (all : Bool) (front rest : List (List ℕ)) (t u kept : List JobParts)
-        (old new : Option (List ℕ)) → IsEnded Read (all ≡ true) front rest t u kept old new
+        × Appends old new answers × IsInFew most v rest u
+        × (all ≡ true → IsInFew most v rest kept) }
+    ensures read { (most : ℕ) (all : Bool) (front rest : List (List ℕ)) (t u kept : List JobParts)
+        (old new : Option (List ℕ)) → IsEnded Read most (all ≡ true) front rest t u kept old new
         → (answers : List ℕ) × IsServed t front answers u × Appends old new answers
         × (all ≡ true → kept ≡ u) }
-    ensures long_line { (all : Bool) (front rest : List (List ℕ)) (t u kept : List JobParts)
-        (old new : Option (List ℕ)) → IsEnded LongLine (all ≡ true) front rest t u kept old new
+    ensures long_line { (most : ℕ) (all : Bool) (front rest : List (List ℕ)) (t u kept : List JobParts)
+        (old new : Option (List ℕ)) → IsEnded LongLine most (all ≡ true) front rest t u kept old new
         → (line : List ℕ) × (more : List (List ℕ)) × (answers : List ℕ)
         × (rest ≡ line ∷ more) × (length front < 1000000) × (262144 < length line)
         × IsServed t front answers u × Appends old new answers × (all ≡ true → kept ≡ u) }
-    ensures too_many_lines { (all : Bool) (front rest : List (List ℕ)) (t u kept : List JobParts)
+    ensures too_many_lines { (most : ℕ) (all : Bool) (front rest : List (List ℕ)) (t u kept : List JobParts)
         (old new : Option (List ℕ))
-        → IsEnded TooManyLines (all ≡ true) front rest t u kept old new
+        → IsEnded TooManyLines most (all ≡ true) front rest t u kept old new
         → (line : List ℕ) × (more : List (List ℕ)) × (answers : List ℕ)
         × (rest ≡ line ∷ more) × (length front ≡ 1000000)
         × IsServed t front answers u × Appends old new answers × (all ≡ true → kept ≡ u) }
@@ -232,14 +243,14 @@ pub fn a_fault_comes_for_what_a_line_asks<D: Disk>(before: &Book<D>, after: &Boo
 /// for which a round is due. Unless memory ran out, this comes at a round that can be made, and the
 /// table before that round is left.
 pub fn a_serving_ends_for_what_a_line_asks()
-    ensures book { (fault : BookFault) (all : Bool) (front rest : List (List ℕ))
+    ensures book { (fault : BookFault) (most : ℕ) (all : Bool) (front rest : List (List ℕ))
         (t u kept : List JobParts) (old new : Option (List ℕ))
-        → IsEnded (by_book fault) (all ≡ true) front rest t u kept old new
+        → IsEnded (by_book fault) most (all ≡ true) front rest t u kept old new
         → (line : List ℕ) × (more : List (List ℕ)) × (rest ≡ line ∷ more)
         × (¬ ReadsLine line (Ok Blank)) × ((why : TextFault) → ¬ ReadsLine line (Err why)) }
-    ensures pool { (fault : PoolFault) (all : Bool) (front rest : List (List ℕ))
+    ensures pool { (fault : PoolFault) (most : ℕ) (all : Bool) (front rest : List (List ℕ))
         (t u kept : List JobParts) (old new : Option (List ℕ))
-        → IsEnded (Pool fault) (all ≡ true) front rest t u kept old new
+        → IsEnded (Pool fault) most (all ≡ true) front rest t u kept old new
         → (line : List ℕ) × (more : List (List ℕ)) × (k : ℕ) × (answers : List ℕ)
         × (v : List JobParts) × (rest ≡ line ∷ more) × ReadsLine line (Ok (Run k))
         × IsServed t front answers v × (turns k 0 v ≢ [])
@@ -249,18 +260,18 @@ pub fn a_serving_ends_for_what_a_line_asks()
 }
 
 /// A failing writer ends a serving after a front of the lines, which are done. All of them are
-/// answered but at most the last one, of whose answer a front was written.
+/// answered but at most a last group of them, of whose answers a front was written.
 pub fn a_failing_writer_cuts_a_serving()
     ensures sent { (before after a b : List ℕ) → AppendsFront (Some a) (Some b) before after
         → (n : ℕ) × (n ≤ length after) × (b ≡ a ++ (before ++ take n after)) }
-    ensures answered { (front : List (List ℕ)) (t u : List JobParts) (old new : Option (List ℕ))
-        → IsCut front t u old new
+    ensures answered { (most : ℕ) (front : List (List ℕ)) (t u : List JobParts) (old new : Option (List ℕ))
+        → IsCut most front t u old new
         → (whole : List (List ℕ)) × (last : List (List ℕ)) × (answers : List ℕ)
-        × (more : List ℕ) × (v : List JobParts) × (front ≡ whole ++ last) × (length last ≤ 1)
+        × (more : List ℕ) × (v : List JobParts) × (front ≡ whole ++ last) × (length last ≤ most)
         × IsServed t whole answers v × IsServed v last more u
         × AppendsFront old new answers more }
-    ensures done { (front : List (List ℕ)) (t u : List JobParts) (old new : Option (List ℕ))
-        → IsCut front t u old new
+    ensures done { (most : ℕ) (front : List (List ℕ)) (t u : List JobParts) (old new : Option (List ℕ))
+        → IsCut most front t u old new
         → (answers : List ℕ) × MayBeServed front × IsServed t front answers u }
 {
     ic_lines::laws::lines_are_served_in_one_way();
@@ -270,27 +281,27 @@ pub fn a_failing_writer_cuts_a_serving()
 /// it. Any other has answered a front of them: a failing writer cuts their answers short and takes
 /// nothing back, and what any other fault leaves is what `a_fault_ends_a_serving` says.
 pub fn a_serving_ends_so<D: Disk>(before: &Book<D>, after: &Book<D>)
-    ensures all { (done : Unit {0}) (ls : List (List ℕ)) (old new : Option (List ℕ))
-        (is : IsServing (Ok done) ls before.now after.now old new) → is.front ≡ ls }
-    ensures served { (done : Unit {0}) (ls : List (List ℕ)) (old new : Option (List ℕ))
-        → IsServing (Ok done) ls before.now after.now old new
+    ensures all { (most : ℕ) (done : Unit {0}) (ls : List (List ℕ)) (old new : Option (List ℕ))
+        (is : IsServing most (Ok done) ls before.now after.now old new) → is.front ≡ ls }
+    ensures served { (most : ℕ) (done : Unit {0}) (ls : List (List ℕ)) (old new : Option (List ℕ))
+        → IsServing most (Ok done) ls before.now after.now old new
         → AreAnswered ls (table_of before.now) (table_of after.now) old new }
-    ensures kept { (done : Unit {0}) (ls : List (List ℕ)) (old new : Option (List ℕ))
-        → IsServing (Ok done) ls before.now after.now old new
+    ensures kept { (most : ℕ) (done : Unit {0}) (ls : List (List ℕ)) (old new : Option (List ℕ))
+        → IsServing most (Ok done) ls before.now after.now old new
         → IsAllKept before.now → IsAllKept after.now }
-    ensures front { (fault : ServeFault) (ls : List (List ℕ)) (old new : Option (List ℕ))
-        (is : IsServing {T = Unit {0}} (Err fault) ls before.now after.now old new)
+    ensures front { (most : ℕ) (fault : ServeFault) (ls : List (List ℕ)) (old new : Option (List ℕ))
+        (is : IsServing {T = Unit {0}} most (Err fault) ls before.now after.now old new)
         → ls ≡ is.front ++ is.rest }
-    ensures fault { (fault : ServeFault) (ls : List (List ℕ)) (old new : Option (List ℕ))
+    ensures fault { (most : ℕ) (fault : ServeFault) (ls : List (List ℕ)) (old new : Option (List ℕ))
         → fault ≢ Write
-        → (is : IsServing {T = Unit {0}} (Err fault) ls before.now after.now old new)
-        → IsEnded fault (IsAllKept before.now) is.front is.rest (table_of before.now)
+        → (is : IsServing {T = Unit {0}} most (Err fault) ls before.now after.now old new)
+        → IsEnded fault most (IsAllKept before.now) is.front is.rest (table_of before.now)
         (table_of after.now) (last_kept after.now) old new }
-    ensures cut { (ls : List (List ℕ)) (old new : Option (List ℕ))
-        (is : IsServing {T = Unit {0}} (Err Write) ls before.now after.now old new)
-        → IsCut is.front (table_of before.now) (table_of after.now) old new }
-    ensures kept_at_cut { (ls : List (List ℕ)) (old new : Option (List ℕ))
-        → IsServing {T = Unit {0}} (Err Write) ls before.now after.now old new
+    ensures cut { (most : ℕ) (ls : List (List ℕ)) (old new : Option (List ℕ))
+        (is : IsServing {T = Unit {0}} most (Err Write) ls before.now after.now old new)
+        → IsCut most is.front (table_of before.now) (table_of after.now) old new }
+    ensures kept_at_cut { (most : ℕ) (ls : List (List ℕ)) (old new : Option (List ℕ))
+        → IsServing {T = Unit {0}} most (Err Write) ls before.now after.now old new
         → IsAllKept before.now → IsAllKept after.now }
 {
     let _ = before;

@@ -1,6 +1,6 @@
 //! What a server has after lines were served over its book.
 
-ghost use Rattle.std.specs.Prelude.{◌≡◌, ◌⊎◌, ◌≤◌, [], ◌∷◌, ◌++◌, ℕ, List, Ok, Option, Result, length, true, IsTrue, OnOk};
+ghost use Rattle.std.specs.Prelude.{◌≡◌, ◌≢◌, ◌⊎◌, ◌≤◌, Err, [], ◌∷◌, ◌++◌, ℕ, List, Ok, Option, Result, length, true, IsTrue, OnOk};
 ghost use Rattle.ic_disk.specs.Images.{Within};
 ghost use Rattle.ic_jobs.specs.declared.command.Command.{Command};
 ghost use Rattle.ic_jobs.specs.declared.event.Entry.{Entry};
@@ -20,13 +20,16 @@ ghost use Rattle.ic_book.specs.Server.{IsFound, Opens, Reaches, Refuses, Server,
 ghost use Rattle.ic_serving.specs.declared.fault.ServeFault.{ServeFault};
 ghost use Rattle.ic_serving.specs.Booked.{IsAllKept, last_kept};
 ghost use Rattle.ic_book.specs.ByCalls.{IsByCalls};
-ghost use Rattle.ic_serving.specs.Answered.{IsDoneFor};
-ghost use Rattle.ic_serving.specs.InTurn.{AreAnsweredInTurn, calls_for, moves_in_turn, reply_for};
+ghost use Rattle.ic_serving.specs.declared.fault.ServeFault.TheVariants.{Write};
+ghost use Rattle.ic_lines.specs.Serving.{IsServed};
+ghost use Rattle.ic_serving.specs.Parts.{IsInFew};
+ghost use Rattle.ic_serving.specs.Answered.{IsDoneFor, IsGroupAnswered, by_group};
+ghost use Rattle.ic_serving.specs.InTurn.{AreAnsweredInTurn, calls_for, moves_at_once, moves_in_turn, replies_at_once, reply_for};
 ghost use Rattle.ic_serving.specs.Served.{AreAnswered};
 ghost use Rattle.ic_serving.specs.Serving.{IsServing};
 ghost use Rattle.ic_serving.specs.Stopped.{MayStand};
 ghost use Rattle.ic_lives.specs.Headline.{IsTableAfter};
-ghost use Rattle.ic_lives.specs.Histories.{IsHistoryOf, StandAmong};
+ghost use Rattle.ic_lives.specs.Histories.{IsHistoryOf, StandAmong, answered, taken};
 ghost use Rattle.ic_serving_laws.specs.Served.{BookOver, IsCutShort};
 ghost use Rattle.ic_serving_laws.specs.Servings.{AreMovesOf, ArePartsOf, Part, Serving, answered_by};
 
@@ -61,15 +64,25 @@ pub fn the_served_headline<D: Disk>(old: &Book<D>, new: &Book<D>, found: &D)
         × (log_of new.now ≡ front ++ command_entry who command reply ∷ after)
         × (kept_of new.now ≤ length front) }
 
-    // And there is one such command at most: all others were answered.
+    // And there is one such command at most.
     ensures once { (done : IsByCalls old.now new.now) (later between earlier : List Move)
         (who other : ℕ) (command second : Command) (reply answer : Reply)
         → ¬ (done.moves ≡ later ++ fails who command reply
         ∷ (between ++ fails other second answer ∷ earlier)) }
+
+    // Of the lines after those that were answered at most one group has come to the table, of at most
+    // so many lines.
+    ensures group { (most : ℕ) (fault : ServeFault) (ls : List (List ℕ))
+        (before after : Option (List ℕ))
+        (serving : IsServing {T = Unit {0}} most (Err fault) ls old.now new.now before after)
+        → 1 ≤ most → fault ≢ Write → (answers : List ℕ) × (t : List JobParts)
+        × IsServed (table_of old.now) serving.front answers t
+        × IsInFew most t serving.rest (table_of new.now) }
 {
     let _ = old;
     let _ = new;
     let _ = found;
+    ic_commands::laws::one_line_reading();
     ic_jobs::laws::histories_split_and_join();
     ic_jobs::laws::life_law();
     ic_slots::laws::one_is_held();
@@ -141,13 +154,13 @@ pub fn servings_are_a_run<D: Disk>(first: &D, last: &D, book: &Book<D>)
     ic_slots::laws::one_is_held();
 }
 
-/// A call of `serve_lines` is a serving by its clauses alone. As many of the lines that it answered as
+/// A call of `serve_lines` is a serving by its clauses alone. As many of the groups that it answered as
 /// one likes may be its first lines.
 pub fn a_call_is_a_serving<D: Disk>(old: &Book<D>, new: &Book<D>)
-    ensures { (result : Result (Unit {0}) ServeFault)
+    ensures { (most : ℕ) (result : Result (Unit {0}) ServeFault)
         (ls : List (List ℕ)) (before after : Option (List ℕ))
-        (serves : IsServing result ls old.now new.now before after)
-        (front more : List (List ℕ)) → serves.front ≡ front ++ more
+        (serves : IsServing most result ls old.now new.now before after)
+        (front more : List (List (List ℕ))) → serves.turns.groups ≡ front ++ more
         → (serving : Serving D.Disk) × (serving.old ≡ old.now) × (serving.new ≡ new.now)
         × (serving.ls ≡ ls) × (serving.result ≡ result) × (serving.front ≡ front) }
 {
@@ -160,14 +173,14 @@ pub fn a_call_is_a_serving<D: Disk>(old: &Book<D>, new: &Book<D>)
 /// that a front of them reaches, or the one that was kept last where not all was kept before. It is
 /// the one after a legal history of the moves that were cut short, which has every answered command.
 pub fn lines_are_moves<D: Disk>(old: &Book<D>, new: &Book<D>, found: &D)
-    ensures answered { (moves : List Move) (result : Result (Unit {0}) ServeFault)
+    ensures answered { (moves : List Move) (most : ℕ) (result : Result (Unit {0}) ServeFault)
         (ls : List (List ℕ)) (before after : Option (List ℕ))
-        (serving : IsServing result ls old.now new.now before after) → Reaches moves (up old.now)
+        (serving : IsServing most result ls old.now new.now before after) → Reaches moves (up old.now)
         → OnOk result (AreAnswered ls (table_of old.now) (table_of new.now) before after)
         × IsTableAfter (serving.crash.done.moves ++ moves) (table_of new.now) }
-    ensures stopped { (moves : List Move) (result : Result (Unit {0}) ServeFault)
+    ensures stopped { (moves : List Move) (most : ℕ) (result : Result (Unit {0}) ServeFault)
         (ls : List (List ℕ)) (before after : Option (List ℕ))
-        (serving : IsServing result ls old.now new.now before after) → Reaches moves (up old.now)
+        (serving : IsServing most result ls old.now new.now before after) → Reaches moves (up old.now)
         → IsFound D.Disk (disk_of old.now) (disk_of new.now) found.now
         → (cut : List Move) × IsCutShort serving.crash.done.moves cut
         × Reaches {ghosts = D.Disk} (cut ++ moves) (down found.now)
@@ -185,14 +198,15 @@ pub fn lines_are_moves<D: Disk>(old: &Book<D>, new: &Book<D>, found: &D)
 }
 
 /// What a serving has answered stays, also where it ends by a fault. After any number of the first
-/// lines that it answered there is a book that their moves reach. The last move of each line is an
-/// answer with the reply whose line the bytes are, or a keep after a run. A stop from that book's
-/// clock on is one in the midst of a later call: the moves of these lines are all there.
+/// groups that it answered there is a book that their moves reach. The last move of each line by itself
+/// is an answer with the reply whose line the bytes are, or a keep after a run, and of other groups their
+/// keep. A stop from that book's clock on is one in the midst of a later call: the moves of these lines
+/// are all there.
 pub fn answered_lines_stay<D: Disk>(old: &Book<D>, new: &Book<D>, found: &D)
-    ensures { (moves : List Move) (result : Result (Unit {0}) ServeFault)
+    ensures { (moves : List Move) (most : ℕ) (result : Result (Unit {0}) ServeFault)
         (ls : List (List ℕ)) (before after : Option (List ℕ))
-        (serving : IsServing result ls old.now new.now before after)
-        (front more : List (List ℕ)) → serving.front ≡ front ++ more
+        (serving : IsServing most result ls old.now new.now before after)
+        (front more : List (List (List ℕ))) → serving.turns.groups ≡ front ++ more
         → Reaches moves (up old.now)
         → (mid : BookOver D.Disk) × (turns : AreAnsweredInTurn front old.now mid)
         × (others : AreAnsweredInTurn more mid serving.turns.between)
@@ -210,7 +224,8 @@ pub fn answered_lines_stay<D: Disk>(old: &Book<D>, new: &Book<D>, found: &D)
 }
 
 /// What is done for a line that is answered: at a command the last of its moves answers it, with the
-/// reply whose line the bytes are, which its entry has too. At a run the last one keeps all.
+/// reply whose line the bytes are, which its entry has too. At a run the last one keeps all, and so it is
+/// for a group: its commands are taken before its last move, each after those before it.
 pub fn answered_lines_are_moves<D: Disk>(old: &Book<D>, new: &Book<D>)
     ensures command { (command : Command) (bytes : List ℕ)
         (done : IsDoneFor (Ok (Asks command)) bytes old.now new.now)
@@ -222,6 +237,11 @@ pub fn answered_lines_are_moves<D: Disk>(old: &Book<D>, new: &Book<D>)
     ensures run { (count : ℕ) (bytes : List ℕ)
         (done : IsDoneFor (Ok (Run count)) bytes old.now new.now) → (earlier : List Move)
         × ((calls_for (Ok (Run count)) bytes old.now new.now done).moves ≡ keeps ∷ earlier) }
+    ensures group { (ls : List (List ℕ)) (bytes : List ℕ)
+        (is : IsGroupAnswered ls bytes old.now new.now) → (earlier : List Move)
+        × (moves_at_once ls bytes old.now new.now (by_group is) ≡ keeps ∷ earlier)
+        × StandAmong (replies_at_once ls bytes old.now new.now (by_group is))
+        (answered earlier ++ taken earlier) }
 {
     let _ = old;
     let _ = new;

@@ -2,11 +2,14 @@
 
 ghost use Rattle.std.specs.Prelude.{◌≡◌, ◌≢◌, ◌↔◌, ◌<◌, ◌≤◌, ℕ, List, [], ◌∷◌, ◌++◌, IsTrue, length};
 ghost use Rattle.ic_disk.specs.Images.{Within};
+ghost use Rattle.ic_disk.specs.Time.{OneMore};
+ghost use Rattle.ic_frames.specs.declared.faults.OpenCause.{OpenCause};
+ghost use Rattle.ic_frames.specs.declared.faults.OpenCause.TheVariants.{Device};
 ghost use Rattle.ic_jobs.specs.Job.{JobParts};
 ghost use Rattle.ic_frames.specs.Fields.{IsMade};
 ghost use Rattle.ic_slots.specs.Held.{IsHeld, the_table};
 ghost use Rattle.ic_book.specs.Moves.{Move, stops};
-ghost use Rattle.ic_book.specs.Server.{IsFound, Server, Step, disk_in, down};
+ghost use Rattle.ic_book.specs.Server.{IsFound, Refuses, Server, Step, disk_in, down};
 ghost use Rattle.ic_lines.specs.Serving.{IsServed};
 ghost use Rattle.ic_serving.specs.Parts.{IsInLine};
 ghost use Rattle.ic_serving.specs.Served.{MayBeServed};
@@ -27,6 +30,17 @@ pub fn stops_are_steps<D: Disk>(found: &D)
         → IsFound D.Disk before after found.now }
 {
     let _ = found;
+}
+
+/// An opening that is refused counts a failure of the disk exactly where it tells of one.
+pub fn a_refused_opening_counts_its_failure<D: Disk>(old: &D, new: &D)
+    ensures device { Refuses D.Disk Device old.now new.now
+        → OneMore (D.failures old.now) (D.failures new.now) }
+    ensures others { (cause : OpenCause) → cause ≢ Device → Refuses D.Disk cause old.now new.now
+        → D.failures new.now ≡ D.failures old.now }
+{
+    let _ = old;
+    let _ = new;
 }
 
 /// Lines reach the table before them, those within the first line, and the one that all of them

@@ -1,6 +1,6 @@
 //! What the words of the laws of `served` come to: what lines and parts tell of commands, cut short.
 
-ghost use Rattle.std.specs.Prelude.{◌≡◌, ◌≤◌, [], ◌∷◌, ◌++◌, ℕ, List, Ok, length, take};
+ghost use Rattle.std.specs.Prelude.{◌≡◌, ◌≤◌, [], ◌∷◌, ◌++◌, ℕ, List, Ok, flat_map, length, take};
 ghost use Rattle.ic_jobs.specs.declared.command.Command.{Command};
 ghost use Rattle.ic_jobs.specs.declared.event.Entry.{Entry};
 ghost use Rattle.ic_jobs.specs.declared.reply.Reply.{Reply};
@@ -12,36 +12,38 @@ ghost use Rattle.ic_commands.specs.LineText.{ReadsLine};
 ghost use Rattle.ic_commands.specs.ReplyText.{reply_text};
 ghost use Rattle.ic_lines.specs.Lines.{ended};
 ghost use Rattle.ic_book.specs.Book.{disk_of};
-ghost use Rattle.ic_book.specs.Entries.{command_entry};
 ghost use Rattle.ic_book.specs.Moves.{Move};
 ghost use Rattle.ic_book.specs.Server.{IsFound, Runs, Server, down, up};
+ghost use Rattle.ic_serving.specs.Answered.{AskFor};
 ghost use Rattle.ic_serving.specs.InTurn.{AreAnsweredInTurn, replies_in_turn};
 ghost use Rattle.ic_lives.specs.Headline.{AreIterates, HoldsPrefixAfter, IsTableAfter};
 ghost use Rattle.ic_lives.specs.Histories.{answered, come};
 ghost use Rattle.ic_lives.specs.Past.{IsPast, Past};
 ghost use Rattle.ic_serving_laws.specs.Served.{IsCutShort};
-ghost use Rattle.ic_serving_laws.specs.Servings.{AreMovesOf, ArePartsOf, IsAnsweredBetween, Part, Serving, answered_by, line_moves, ended as ended_part, stopped as stopped_part, other as other_part};
+ghost use Rattle.ic_serving_laws.specs.Servings.{AreMovesOf, ArePartsOf, IsAnsweredBetween, Part, Serving, answered_by, entries_of, line_moves, ended as ended_part, stopped as stopped_part, other as other_part};
 
 use ic_book::Book;
 use ic_disk::Disk;
 
-/// What lines that were answered in turn tell of commands: a command line its own, with the reply whose
-/// line it was answered, between what those before it and those after it tell. No other line tells any.
+/// What groups of lines that were answered in turn tell of commands: a group of command lines, and one by
+/// itself, its own, with the replies whose lines it was answered, between what those before it and those
+/// after it tell. No other line tells any.
 pub fn each_command_line_is_told<D: Disk>(first: &Book<D>, last: &Book<D>)
-    ensures command { (front back : List (List ℕ)) (line : List ℕ) (command : Command)
-        (turns : AreAnsweredInTurn (front ++ line ∷ back) first.now last.now)
-        → ReadsLine line (Ok (Asks command))
-        → (here : IsAnsweredBetween front line back first.now last.now) × (reply : Reply)
-        × (here.bytes ≡ ended (reply_text reply))
-        × (replies_in_turn (front ++ line ∷ back) first.now last.now turns
+    ensures command { (front back : List (List (List ℕ))) (group : List (List ℕ))
+        (commands : List Command)
+        (turns : AreAnsweredInTurn (front ++ group ∷ back) first.now last.now)
+        → AskFor group commands
+        → (here : IsAnsweredBetween front group back first.now last.now) × (replies : List Reply)
+        × (here.bytes ≡ flat_map (λ reply. ended (reply_text reply)) replies)
+        × (replies_in_turn (front ++ group ∷ back) first.now last.now turns
         ≡ replies_in_turn front first.now here.before here.in_front
-        ++ command_entry 0 command reply
-        ∷ replies_in_turn back here.after last.now here.later) }
-    ensures other { (front back : List (List ℕ)) (line : List ℕ)
-        (turns : AreAnsweredInTurn (front ++ line ∷ back) first.now last.now)
+        ++ (entries_of commands replies
+        ++ replies_in_turn back here.after last.now here.later)) }
+    ensures other { (front back : List (List (List ℕ))) (line : List ℕ)
+        (turns : AreAnsweredInTurn (front ++ (line ∷ []) ∷ back) first.now last.now)
         → ((command : Command) → ¬ ReadsLine line (Ok (Asks command)))
-        → (here : IsAnsweredBetween front line back first.now last.now)
-        × (replies_in_turn (front ++ line ∷ back) first.now last.now turns
+        → (here : IsAnsweredBetween front (line ∷ []) back first.now last.now)
+        × (replies_in_turn (front ++ (line ∷ []) ∷ back) first.now last.now turns
         ≡ replies_in_turn front first.now here.before here.in_front
         ++ replies_in_turn back here.after last.now here.later) }
     ensures none { (turns : AreAnsweredInTurn [] first.now last.now)

@@ -1,6 +1,8 @@
 pub mod ThirdOccurrence
 pub mod ConfigLemmas
 pub mod SymbolLemmas
+pub mod KeyLemmas
+pub mod Packing
 pub mod TreeLemmas
 pub mod Greatest
 pub mod SymbolsMade

@@ -1,48 +1,20 @@
--- A list of symbols as the entries of the map that keeps it.
-use Rattle.std.proofs.Common.{◌≡◌, ℕ, suc, ◌||◌, ◌&&◌, ◌+◌, ◌<◌, ◌≤◌, ◌==◌, Bool, true, false, not, List, [], ◌∷◌, ◌++◌, Option, None, Some, Result, Ok, Err, length, map, option_map, slice_get, refl, sym, ◌∙◌, ap, cond, arith, IsTrue, nat_lt, Vec, zero, drop, IfSome, add-one, length-append}
-use Rattle.std.specs.declared.alloc.Global.{Global}
+-- Lists of symbols, and one more.
+use Rattle.std.proofs.Common.{◌≡◌, ℕ, suc, ◌||◌, ◌&&◌, ◌+◌, ◌<◌, ◌≤◌, ◌==◌, Bool, true, false, not, List, [], ◌∷◌, ◌++◌, Option, None, Some, Result, Ok, Err, length, map, option_map, slice_get, refl, sym, ◌∙◌, ap, cond, arith, IsTrue, nat_lt, zero, drop, IfSome, add-one, length-append}
 use Rattle.std.proofs.lemmas.Grind.{common_steps}
-use Rattle.std.proofs.lemmas.List.{length-map, map-append}
+use Rattle.std.proofs.lemmas.List.{map-append}
 use Rattle.std.proofs.lemmas.Map.Keys.{IsDistinct-push}
 use Rattle.std.proofs.lemmas.Cmp.{nat_list_eq_equiv}
 use Rattle.std.specs.List.{position, prefix_len, list_any, AllByRecursion, IsDistinct}
 use Rattle.std.specs.Cmp.Lexicographic.{pointwise}
 use Rattle.std.specs.Str.{bytes_eq}
-use Rattle.std.specs.declared.hash.FoldHasher.{FoldHasher}
-use Rattle.std.specs.declared.hash.BuildHasherDefault.{BuildHasherDefault}
-use Rattle.indexmap.specs.IndexMap.{IndexMap, insert_entry, get, get_by}
-use Rattle.indexmap.proofs.CallerLemmas.{insert_entry-new}
 use Rattle.ic_term.specs.Symbol.{Symbol, AreSymbols, texts, number_of_text, numbered, with_symbol, has_arity, fits_limits, is_symbol_text, Answers}
+use Rattle.ic_term.specs.declared.symbols.Entry.{Entry}
 use Rattle.ic_term.specs.declared.limits.TheConstants.{MAX_WIDE_SYMBOLS, MAX_SYMBOL_TEXT, MAX_ARITY}
 use Rattle.ic_term.specs.declared.symbols.SymbolFault.TheVariants.{Limit, Arity, Memory}
 use Rattle.ic_term.specs.declared.symbols.SymbolFault.{SymbolFault}
 
-prefix_len-map : {X Y : Type 0} (p : Y → Bool) (f : X → Y) (xs : List X) → prefix_len p (map f xs) ≡ prefix_len (λ x. p (f x)) xs
-prefix_len-map p f [] = refl
-prefix_len-map p f (x ∷ xs) = ap (λ n. cond (p (f x)) (1 + n) 0) (prefix_len-map p f xs)
-
-pub position-map : {X Y : Type 0} (p : Y → Bool) (f : X → Y) (xs : List X) → position p (map f xs) ≡ position (λ x. p (f x)) xs
-position-map p f xs = rw (prefix_len-map (λ y. not (p y)) f xs, length-map xs f) refl
-
-abbrev pub Hasher : Type 0
-Hasher = BuildHasherDefault FoldHasher
-
-abbrev pub same_bytes : Vec ℕ Global → Vec ℕ Global → Bool
-same_bytes a b = bytes_eq a.items b.items
-
-abbrev pub Entry : Type 0
-Entry = Vec ℕ Global × ℕ
-
 abbrev pub symbol_of : Entry → Symbol
-symbol_of e = record { text = e.0.items; arity = e.1 }
-
-texts-map : (es : List Entry) → texts (map symbol_of es) ≡ map (λ (k : Vec ℕ Global). k.items) (map (λ (e : Entry). e.0) es)
-texts-map [] = refl
-texts-map (e ∷ es) = ap (λ ts. e.0.items ∷ ts) (texts-map es)
-
--- the number of a text is the place of its key
-pub number-place : (es : List Entry) (text : List ℕ) → number_of_text (map symbol_of es) text ≡ position (λ (k : Vec ℕ Global). bytes_eq text k.items) (map (λ (e : Entry). e.0) es)
-number-place es text = rw (texts-map es) (position-map (bytes_eq text) (λ (k : Vec ℕ Global). k.items) (map (λ (e : Entry). e.0) es))
+symbol_of e = record { text = e.text.items; arity = e.arity }
 
 -- A text that is there with another or the same arity.
 pub numbered-found : (ss : List Symbol) (text : List ℕ) (arity known n : ℕ) → length text ≤ MAX_SYMBOL_TEXT → arity ≤ MAX_ARITY
@@ -97,21 +69,16 @@ AreSymbols-push ss text arity old room is_text short few none = record {
   distinct = rw (map-append (λ (s : Symbol). s.text) ss (record { text = text; arity = arity } ∷ [])) (IsDistinct-push nat_list_eq_equiv (texts ss) text old.distinct (list_any-none (bytes_eq text) (texts ss) none));
 }
 
-AreSymbols-none : AreSymbols []
+pub AreSymbols-none : AreSymbols []
 unfolding IsDistinct
 AreSymbols-none = record { few = omega arith; each = tt; distinct = tt }
 
-pub AreSymbols-empty : (es : List Entry) → length es ≡ 0 → AreSymbols (map symbol_of es)
-AreSymbols-empty [] h = AreSymbols-none
-AreSymbols-empty (e ∷ es) h = absurd (omega (arith, h))
-
--- The entries after a new text was inserted are one more symbol.
-pub symbols-insert : (m : IndexMap (Vec ℕ Global) ℕ Hasher) (k : Vec ℕ Global) (text : List ℕ) (arity : ℕ) → k.items ≡ text
-    → get_by (λ (key : Vec ℕ Global). bytes_eq text key.items) m ≡ None
-    → map symbol_of (insert_entry same_bytes m.entries k arity) ≡ map symbol_of m.entries ++ record { text = text; arity = arity } ∷ []
-symbols-insert m k text arity is absent =
-    let none : get same_bytes m k ≡ None = ap (λ t. get_by (λ (key : Vec ℕ Global). bytes_eq t key.items) m) is ∙ absent in
-    rw (insert_entry-new same_bytes m k arity none, map-append symbol_of m.entries ((k, arity) ∷ [])) (ap (λ t. map symbol_of m.entries ++ record { text = t; arity = arity } ∷ []) is)
+-- the symbols of the entries once there is one more
+pub symbols-push : (es fs gs : List Entry) (e : Entry) (text : List ℕ) → gs ≡ fs ++ e ∷ [] → fs ≡ es → e.text.items ≡ text
+    → map symbol_of gs ≡ map symbol_of es ++ record { text = text; arity = e.arity } ∷ []
+symbols-push es fs gs e text pushed same is =
+    ap (map symbol_of) (pushed ∙ ap (λ l. l ++ e ∷ []) same) ∙ map-append symbol_of es (e ∷ [])
+    ∙ ap (λ t. map symbol_of es ++ record { text = t; arity = e.arity } ∷ []) is
 
 -- two lists from a place on: the test of the elements there, and of those after them
 pub pointwise-drop : {X : Type 0} (e : X → X → Bool) (xs ys : List X) (i : ℕ) (r : Bool) → i < length xs → i < length ys

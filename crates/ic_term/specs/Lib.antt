@@ -4,3 +4,4 @@ pub mod Configuration
 pub mod ConfigFault
 pub mod Symbol
 pub mod lemmas
+pub mod inner

@@ -7,6 +7,7 @@
 mod arities;
 mod config;
 mod equality;
+mod key;
 pub mod laws;
 mod limits;
 mod occurrences;

@@ -9,9 +9,10 @@ ghost use Rattle.ic_term.specs.Symbol.{symbol_eq, symbols_eq, AreSymbols};
 ghost use Rattle.ic_term.specs.lemmas.SymbolLaws.{symbols_eq-equivalence};
 ghost use Rattle.ic_term.specs.declared.symbols.SymbolFault.TheVariants.{Memory};
 
+use crate::key::{Key, key_of};
 use crate::limits::{MAX_ARITY, MAX_SYMBOL_TEXT, MAX_WIDE_SYMBOLS};
-use indexmap::IndexMap;
 use std::alloc::{AllocError, AllocFailed, Global};
+use std::collections::BTreeMap;
 use std::marker::Model;
 
 /// Why a text has no number, in the order in which it is tried.
@@ -41,10 +42,19 @@ impl<T: Drop> From<AllocFailed<T>> for SymbolFault {
     }
 }
 
+/// The text of a symbol, and its arity.
+#[derive(Debug, Drop)]
+struct Entry {
+    text: Vec<u8>,
+    arity: usize,
+}
+
 /// Symbols with their arities, numbered in the order in which they came.
 #[derive(Debug, Drop)]
 pub struct Symbols {
-    arities: IndexMap<Vec<u8>, usize>,
+    entries: Vec<Entry>,
+    /// The number of each by the key of its text. It is a tree, so that no texts can be chosen that are slow to find.
+    numbers: BTreeMap<Key, u32>,
 }
 
 impl Model for Symbols {
@@ -57,10 +67,14 @@ impl Model for Symbols {
 
     ghost coded = { coded_list coded_symbol };
 
-    ghost view = { λ s. map (λ e. record { text = e.0.items; arity = e.1 }) s.arities.entries };
+    ghost use Rattle.ic_term.specs.inner.Keys.{AreNumbers};
+
+    ghost view = { λ s. map (λ e. record { text = e.text.items; arity = e.arity }) s.entries.items };
 
     ghost invariant = { λ s. AreSymbols
-        (map (λ e. record { text = e.0.items; arity = e.1 }) s.arities.entries) };
+        (map (λ e. record { text = e.text.items; arity = e.arity }) s.entries.items)
+        × AreNumbers s.numbers
+        (map (λ e. record { text = e.text.items; arity = e.arity }) s.entries.items) };
 }
 
 impl Symbols {
@@ -68,25 +82,26 @@ impl Symbols {
     pub fn new(alloc: Global) -> Symbols
         ensures { result ≡ [] }
     {
-        Symbols {
-            arities: IndexMap::new(alloc),
-        }
+        let entries = Vec::new(alloc);
+        let numbers = BTreeMap::new(alloc);
+        Symbols { entries, numbers }
     }
 
     pub fn len(&self) -> usize
         ensures len { result ≡ length self.now }
         ensures sound { AreSymbols self.now }
     {
-        self.arities.len()
+        self.entries.len()
     }
 
     pub fn is_empty(&self) -> bool
         ensures { IsTrue result ↔ (self.now ≡ []) }
     {
-        self.arities.is_empty()
+        self.entries.is_empty()
     }
 
-    /// The number of the symbol with this text and arity: its old one, or the next one. Takes one look-up.
+    /// The number of the symbol with this text and arity: its old one, or the next one. Takes a number of steps that grows
+    /// as the logarithm of the number of symbols.
     pub fn number(&mut self, text: &[u8], arity: usize) -> Result<u32, SymbolFault>
         requires { IsTrue (is_symbol_text text.now) }
         ensures number { Answers result (numbered self.old text.now arity) }
@@ -96,15 +111,18 @@ impl Symbols {
         if text.len() > MAX_SYMBOL_TEXT || arity > MAX_ARITY {
             return Err(SymbolFault::Limit);
         }
-        if let Some((number, _, known)) = self.arities.get_full(text) {
-            return known_number(number as u32, *known, arity);
+        let key = key_of(text);
+        if let Some(number) = self.numbers.get(&key).copied() {
+            return known_number(number, self.entries[number as usize].arity, arity);
         }
-        let number = self.arities.len();
+        let number = self.entries.len();
         if number >= MAX_WIDE_SYMBOLS {
             return Err(SymbolFault::Limit);
         }
-        let text = Vec::from_slice(*self.arities.allocator(), text)?;
-        self.arities.insert(text, arity)?;
+        let text = Vec::from_slice(*self.entries.allocator(), text)?;
+        self.entries.reserve(1)?;
+        self.numbers.insert(key, number as u32)?;
+        self.entries.push_reserved(Entry { text, arity });
         Ok(number as u32)
     }
 
@@ -113,8 +131,7 @@ impl Symbols {
         requires { sym < length self.now }
         ensures { symbol_text self.now sym ≡ Some result.now }
     {
-        let (text, _) = self.arities.get_index(sym as usize).unwrap();
-        text
+        &self.entries[sym as usize].text
     }
 
     /// The arity of the symbol with this number.
@@ -122,8 +139,7 @@ impl Symbols {
         requires { sym < length self.now }
         ensures { symbol_arity self.now sym ≡ Some result }
     {
-        let (_, arity) = self.arities.get_index(sym as usize).unwrap();
-        *arity
+        self.entries[sym as usize].arity
     }
 
     /// Whether the symbol with this number is the same in both.
@@ -140,9 +156,9 @@ impl Symbols {
     pub fn has_arity(&self, sym: u32, arity: usize) -> bool
         ensures { result ≡ has_arity arity (slice_get self.now sym) }
     {
-        match self.arities.get_index(sym as usize) {
+        match self.entries.get(sym as usize) {
             None => false,
-            Some((_, known)) => *known == arity,
+            Some(entry) => entry.arity == arity,
         }
     }
 }

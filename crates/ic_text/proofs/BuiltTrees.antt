@@ -11,7 +11,7 @@ use Rattle.ic_flat.specs.Flat.{pairs_of}
 use Rattle.ic_flat.specs.lemmas.WordLaws.{trees_of-list_of}
 use Rattle.ic_text.specs.Source.{Source, leaf, node, Sources, no_sources, more_sources, Sides, Phrase, IsSource, AreSources, IsPhrase, count_of}
 use Rattle.ic_text.specs.Sense.{number_in_table, numbered_tree, numbered_trees, numbered_pair, numbered_phrase}
-use Rattle.ic_text.specs.Words.{prefix, prefix_of_sources, phrase_prefix}
+use Rattle.ic_text.specs.inner.Words.{prefix, prefix_of_sources, phrase_prefix}
 use Rattle.ic_text.specs.inner.Numbered.{word_from}
 use Rattle.ic_text.specs.inner.Built.{IsPaired, configuration_from}
 use Rattle.ic_text.specs.lemmas.NameLemmas.{is_name-name_text, name_number-name_text, isnt_name-symbol}

@@ -11,7 +11,7 @@ use Rattle.ic_text.specs.Source.{Source, leaf, node, Sources, no_sources, more_s
 use Rattle.ic_text.specs.SystemSource.{RulePhrase, SystemPhrase, IsSystemPhrase, agent_source, rule_words, rules_words, system_words, rule_symbols, system_symbols}
 use Rattle.ic_text.specs.Sense.{symbols_after}
 use Rattle.ic_text.specs.SystemSense.{system_table}
-use Rattle.ic_text.specs.Words.{prefix, prefix_of_sources, phrase_prefix, rules_prefix, symbols_among, names_among}
+use Rattle.ic_text.specs.inner.Words.{prefix, prefix_of_sources, phrase_prefix, rules_prefix, symbols_among, names_among}
 use Rattle.ic_text.proofs.PrefixWords.{symbols_among-phrase, names_among-phrase}
 use Rattle.ic_text.proofs.JoinedPhrase.{joined_phrase, prefix-joined, symbols-joined, is-joined}
 use Rattle.ic_text.specs.lemmas.SymbolOrder.{symbols_after-append}

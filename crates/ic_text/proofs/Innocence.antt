@@ -1,21 +1,10 @@
--- What stands before a refusal of names or of rules is innocent.
-use Rattle.std.proofs.Common.{◌≡◌, ℕ, zero, suc, ◌+◌, ◌<◌, ◌≤◌, Bool, true, false, not, cond, List, [], ◌∷◌, ◌++◌, None, Some, length, take, map, refl, sym, ap, ◌∙◌, arith, length-append}
+-- What stands before the first rule that is refused is innocent.
+use Rattle.std.proofs.Common.{◌≡◌, ℕ, zero, suc, ◌+◌, Bool, true, false, not, cond, List, [], ◌∷◌, ◌++◌, None, Some, length, take, map, refl, sym, ap, ◌∙◌, arith, length-append}
 use Rattle.std.specs.List.{list_any, position_from}
 use Rattle.std.proofs.lemmas.List.{take-map}
 use Rattle.ic_rules.specs.Renaming.{are_paired}
 use Rattle.ic_rules.specs.Rule.{Rule, rule_names, numbered, is_lopsided, same_pair}
 use Rattle.ic_rules.specs.RuleSet.{first_uncounted, repeated_after, first_repeated, first_lopsided}
-use Rattle.ic_text.specs.Name.{is_name}
-use Rattle.ic_text.specs.Words.{Written}
-use Rattle.ic_text.specs.WordFaults.{IsMiscount, uses}
-use Rattle.ic_text.proofs.Miscounts.{never_alone, twice_before}
-
-pub names_innocent : (i k : ℕ) (w : Written) (is : IsMiscount i w k) (text : List ℕ) → is_name text ≡ true → uses text (take is.before is.words) ≤ 2
-names_innocent i k w is text named = twice_before is.words is.before (omega (arith, is.inside)) is.first text named is.before (omega arith)
-
--- nor is one of them there for the only time
-pub none_alone : (i k : ℕ) (w : Written) (is : IsMiscount i w k) (text : List ℕ) → is_name text ≡ true → 0 < uses text (take is.before is.words) → uses text is.words ≡ 1 → ⊥
-none_alone i k w is text named some = never_alone is.words is.before (omega (arith, is.inside)) is.first text named is.before (omega arith) some
 
 some_same : (m n : ℕ) → m ≡ n → Some m ≡ Some n
 some_same m n e = ap Some e

@@ -7,7 +7,7 @@ use Rattle.std.proofs.lemmas.List.Sums.{sum_by-cons}
 use Rattle.std.proofs.Common.{length-append}
 use Rattle.ic_text.specs.Source.{Source, Phrase, IsSource, IsPhrase, source_symbols, source_names, phrase_symbols, phrase_names}
 use Rattle.ic_text.specs.SystemSource.{RulePhrase, SystemPhrase, IsRulePhrase, IsSystemPhrase, agent_source, system_symbols, system_names, rule_nodes}
-use Rattle.ic_text.specs.Words.{prefix, phrase_prefix, rules_prefix}
+use Rattle.ic_text.specs.inner.Words.{prefix, phrase_prefix, rules_prefix}
 use Rattle.ic_text.proofs.PrefixWords.{length-prefix}
 
 -- the sides of rules, one after the other
@@ -41,10 +41,6 @@ symbols-joined s = through source_symbols s _
 
 pub names-joined : (s : SystemPhrase) → phrase_names (joined_phrase s) ≡ system_names s
 names-joined s = through source_names s _
-
-pub length-sides_of_rules : (rs : List RulePhrase) → length (sides_of_rules rs) ≡ 2 * length rs
-length-sides_of_rules [] = refl
-length-sides_of_rules (r ∷ rs) = omega (arith, length-sides_of_rules rs)
 
 sides_are : (rs : List RulePhrase) (ts : List Source) → AllByRecursion IsRulePhrase rs → AllByRecursion IsSource ts → AllByRecursion IsSource (sides_of_rules rs ++ ts)
 sides_are [] ts is are = are

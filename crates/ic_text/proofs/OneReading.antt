@@ -9,7 +9,7 @@ use Rattle.ic_text.specs.Name.{is_name, name_number}
 use Rattle.ic_text.specs.Source.{Source, leaf, node, Sources, no_sources, more_sources, Sides, Phrase, IsSource, AreSources, IsPhrase, phrase_words, count_of}
 use Rattle.ic_text.specs.inner.Syntax.{accepts}
 use Rattle.ic_text.specs.inner.Prefix.{Scanned, scan}
-use Rattle.ic_text.specs.Words.{prefix, prefix_of_sources, phrase_prefix}
+use Rattle.ic_text.specs.inner.Words.{prefix, prefix_of_sources, phrase_prefix}
 use Rattle.ic_text.specs.lemmas.NameLemmas.{is_name-name_text, name_number-name_text, isnt_name-symbol}
 use Rattle.ic_text.proofs.Accepted.{at}
 use Rattle.ic_text.proofs.Grammar.{AreSides}

@@ -9,7 +9,7 @@ use Rattle.ic_text.specs.declared.limits.TheConstants.{MAX_NAME}
 use Rattle.ic_text.specs.Name.{is_name, name_number}
 use Rattle.ic_text.specs.Source.{Source, leaf, node, Sources, no_sources, more_sources, Sides, Phrase, IsSource, AreSources, IsPhrase, source_names, names_of_sources, source_symbols, symbols_of_sources, source_nodes, nodes_of_sources, phrase_names, phrase_symbols, phrase_nodes, count_of}
 use Rattle.ic_text.specs.Sense.{symbols_after, has_its_arity}
-use Rattle.ic_text.specs.Words.{prefix, prefix_of_sources, phrase_prefix, symbols_among, names_among}
+use Rattle.ic_text.specs.inner.Words.{prefix, prefix_of_sources, phrase_prefix, symbols_among, names_among}
 use Rattle.ic_text.specs.inner.Numbered.{IsWord, table_over, is_word_in_limits, is_word_over}
 use Rattle.ic_text.specs.lemmas.NameLemmas.{is_name-name_text, name_number-name_text, isnt_name-symbol}
 

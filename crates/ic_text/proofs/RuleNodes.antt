@@ -1,10 +1,11 @@
 -- The nodes of rules, counted word by word and rule by rule.
-use Rattle.std.proofs.Common.{◌≡◌, ℕ, zero, suc, ◌+◌, ◌-◌, ◌*◌, ◌<◌, ◌≤◌, ◌⊎◌, inl, inr, Bool, true, false, not, ◌&&◌, cond, List, [], ◌∷◌, ◌++◌, Some, length, take, refl, sym, ap, ◌∙◌, append_assoc, arith, append-nil, length-append}
+use Rattle.std.proofs.Common.{◌≡◌, ℕ, zero, suc, ◌+◌, ◌-◌, ◌*◌, ◌<◌, ◌≤◌, ◌^◌, Bool, true, false, not, ◌&&◌, cond, List, [], ◌∷◌, ◌++◌, length, drop, get_or, refl, sym, ap, ◌∙◌, append_assoc, arith, length-append}
 use Rattle.std.specs.Prelude.{nat_le, nat_lt, sum_by}
-use Rattle.std.specs.List.{list_all, slice_get}
-use Rattle.std.proofs.lemmas.Bool.{and_from, and_parts, cases_lt, false≢true, leb-true, leb-false, lt-ltb, le-ltb, ltb-true, ltb-false}
-use Rattle.std.proofs.lemmas.List.Sums.{sum_by-cons}
-use Rattle.std.proofs.Math.Bool.{and-true}
+use Rattle.std.specs.List.{list_all}
+use Rattle.std.proofs.lemmas.Bool.{and_from, leb-true, leb-false, lt-ltb, le-ltb, ltb-true, ltb-false}
+use Rattle.std.proofs.lemmas.Bool.Decides.{nat_tests}
+use Rattle.std.proofs.lemmas.List.{drop_more}
+use Rattle.std.proofs.lemmas.List.Sums.{sum_by-append, sum_by-cons}
 use Rattle.ic_term.specs.Symbol.{Symbol}
 use Rattle.ic_rules.specs.declared.limits.TheConstants.{MAX_RULE_NODES}
 use Rattle.ic_text.specs.declared.limits.Limits.{Limits}
@@ -12,152 +13,99 @@ use Rattle.ic_text.specs.declared.limits.Limits.TheVariants.{Served, Wide}
 use Rattle.ic_text.specs.Source.{Source, leaf, node, Sources, no_sources, more_sources, count_of, nodes_of_sources, source_nodes}
 use Rattle.ic_text.specs.SystemSource.{RulePhrase, agent_source, rule_nodes}
 use Rattle.ic_text.specs.SystemSense.{rules_are_small}
-use Rattle.ic_text.specs.Words.{prefix, prefix_of_sources, rule_prefix, rules_prefix}
-use Rattle.ic_text.specs.WordFaults.{IsFirstWord, count_words, each_keeps, rule_nodes_keep}
-use Rattle.ic_text.specs.inner.Counted.{due_over, nodes_over, side_over}
-use Rattle.ic_text.proofs.Blaming.{Standing}
+use Rattle.ic_text.specs.inner.Words.{prefix, prefix_of_sources, rules_prefix}
+use Rattle.ic_text.specs.inner.Counted.{due_after, each_keeps, rule_nodes_keep}
 use Rattle.ic_text.proofs.Numbering.{gt_test}
-use Rattle.ic_text.proofs.Counting.{count-both, count-rules, le_test}
-use Rattle.ic_text.proofs.Excesses.{within_fit}
 use Rattle.ic_text.proofs.JoinedPhrase.{length-rules_prefix}
 
--- ---- fronts
+pub le_test : (n m : ℕ) → n ≤ m → nat_le n m ≡ true
+le_test n m le = grind (arith, nat_tests)
 
--- a front of words that keep the limit keeps it
-pub each-take : (j : ℕ) (ws : List Symbol) (due : ℕ) (second : Bool) (n : ℕ) → each_keeps due second n ws ≡ true → each_keeps due second n (take j ws) ≡ true
-each-take zero ws due second n kept = refl
-each-take (suc j) [] due second n kept = refl
-each-take (suc j) (w ∷ ws) zero second n kept = each-take j ws w.arity (not second) (cond second 0 n) kept
-each-take (suc j) (w ∷ ws) (suc due) second n kept =
-    let parts = and_parts (nat_lt n MAX_RULE_NODES) (each_keeps (due + w.arity) second (n + 1) ws) kept in
-    and_from _ _ parts.0 (each-take j ws (due + w.arity) second (n + 1) parts.1)
+abbrev pub arities : List Symbol → ℕ
+arities ws = sum_by (λ (w : Symbol). w.arity) ws
 
--- ---- one word more
+-- words have no more arguments than they are
+mutual
+  arities-prefix : (t : Source) → 1 + arities (prefix t) ≡ length (prefix t)
+  arities-prefix (leaf n) = refl
+  arities-prefix (node text us) =
+      omega (arith, arities-sources us, sum_by-cons (λ (x : Symbol). x.arity) (record { text = text; arity = count_of us }) (prefix_of_sources us))
 
-abbrev here_keeps : ℕ → ℕ → Bool
-here_keeps zero n = true
-here_keeps (suc due) n = nat_lt n MAX_RULE_NODES
+  arities-sources : (us : Sources) → count_of us + arities (prefix_of_sources us) ≡ length (prefix_of_sources us)
+  arities-sources no_sources = refl
+  arities-sources (more_sources u us) =
+      omega (arith, arities-prefix u, arities-sources us, sum_by-append (λ (x : Symbol). x.arity) (prefix u) (prefix_of_sources us), length-append (prefix u) (prefix_of_sources us))
 
-abbrev next_side : ℕ → Bool → Bool
-next_side zero second = not second
-next_side (suc due) second = second
+arities-append : (vs ws : List Symbol) → arities (vs ++ ws) ≡ arities vs + arities ws
+arities-append vs ws = sum_by-append (λ (x : Symbol). x.arity) vs ws
 
-abbrev next_nodes : ℕ → Bool → ℕ → ℕ
-next_nodes zero second n = cond second 0 n
-next_nodes (suc due) second n = n + 1
+pub arities-rules : (rs : List RulePhrase) → arities (rules_prefix rs) ≤ length (rules_prefix rs)
+arities-rules [] = omega arith
+arities-rules (r ∷ rs) =
+    let left = prefix (agent_source r.left) in
+    let right = prefix (agent_source r.right) in
+    omega (arith, arities-prefix (agent_source r.left), arities-prefix (agent_source r.right), arities-rules rs, arities-append (left ++ right) (rules_prefix rs), arities-append left right, length-append (left ++ right) (rules_prefix rs), length-append left right)
 
-and_assoc : (a b c : Bool) → (a && (b && c)) ≡ ((a && b) && c)
-and_assoc true b c = refl
-and_assoc false b c = refl
-
-keeps-push : (ws : List Symbol) (w : Symbol) (due : ℕ) (second : Bool) (n : ℕ)
-    → each_keeps due second n (ws ++ w ∷ []) ≡ (each_keeps due second n ws && here_keeps (due_over due ws) (nodes_over due second n ws))
-keeps-push [] w zero second n = refl
-keeps-push [] w (suc due) second n = and-true (nat_lt n MAX_RULE_NODES)
-keeps-push (x ∷ ws) w zero second n = keeps-push ws w x.arity (not second) (cond second 0 n)
-keeps-push (x ∷ ws) w (suc due) second n =
-    ap (λ b. nat_lt n MAX_RULE_NODES && b) (keeps-push ws w (due + x.arity) second (n + 1))
-    ∙ and_assoc (nat_lt n MAX_RULE_NODES) (each_keeps (due + x.arity) second (n + 1) ws) (here_keeps (due_over (due + x.arity) ws) (nodes_over (due + x.arity) second (n + 1) ws))
-
-side-push : (ws : List Symbol) (w : Symbol) (due : ℕ) (second : Bool) → side_over due second (ws ++ w ∷ []) ≡ next_side (due_over due ws) (side_over due second ws)
-side-push [] w zero second = refl
-side-push [] w (suc due) second = refl
-side-push (x ∷ ws) w zero second = side-push ws w x.arity (not second)
-side-push (x ∷ ws) w (suc due) second = side-push ws w (due + x.arity) second
-
-nodes-push : (ws : List Symbol) (w : Symbol) (due : ℕ) (second : Bool) (n : ℕ)
-    → nodes_over due second n (ws ++ w ∷ []) ≡ next_nodes (due_over due ws) (side_over due second ws) (nodes_over due second n ws)
-nodes-push [] w zero second n = refl
-nodes-push [] w (suc due) second n = refl
-nodes-push (x ∷ ws) w zero second n = nodes-push ws w x.arity (not second) (cond second 0 n)
-nodes-push (x ∷ ws) w (suc due) second n = nodes-push ws w (due + x.arity) second (n + 1)
-
--- what the loop has counted after so many words
-pub record Counted (ws : List Symbol) (k due : ℕ) (second : Bool) (found : ℕ) : Type 0 where
-  pub due_is : due ≡ due_over 0 (take k ws)
-  pub side_is : second ≡ side_over 0 true (take k ws)
-  pub found_is : found ≡ nodes_over 0 true 0 (take k ws)
+-- where the words so far are walked over, this is left to be seen
+pub record Walked (ws : List Symbol) (k due : ℕ) (second : Bool) (found : ℕ) : Type 0 where
+  pub room : due + arities (drop k ws) < 2 ^ 64
   pub few : found ≤ MAX_RULE_NODES
-  pub kept : (j : ℕ) → j ≤ k → each_keeps 0 true 0 (take j ws) ≡ true
+  pub same : each_keeps due second found (drop k ws) ≡ each_keeps 0 true 0 ws
 
-pub none_counted : (ws : List Symbol) → Counted ws 0 0 true 0
-none_counted ws = record {
-  due_is = refl;
-  side_is = refl;
-  found_is = refl;
-  few = omega arith;
-  kept = λ j le. let none : j ≡ 0 = omega (arith, le) in ap (λ i. each_keeps 0 true 0 (take i ws)) none;
-}
+module _ (ws : List Symbol) (k : ℕ) (w : Symbol) (rest : drop k ws ≡ w ∷ drop (k + 1) ws) (due found : ℕ) (second : Bool) (walked : Walked ws k due second found) where
+  more : arities (drop k ws) ≡ w.arity + arities (drop (k + 1) ws)
+  more = ap arities rest ∙ sum_by-cons (λ (x : Symbol). x.arity) w (drop (k + 1) ws)
 
-module _ (ws : List Symbol) (k : ℕ) (w : Symbol) (stands : Standing ws k w) (due found : ℕ) (second : Bool) (so_far : Counted ws k due second found) where
-  keeps_on : each_keeps 0 true 0 (take (k + 1) ws) ≡ here_keeps due found
-  keeps_on =
-      ap (each_keeps 0 true 0) stands.front ∙ keeps-push (take k ws) w 0 true 0
-      ∙ (λ i. so_far.kept k (omega arith) i && here_keeps (sym so_far.due_is i) (sym so_far.found_is i))
+  here : each_keeps due second found (w ∷ drop (k + 1) ws) ≡ each_keeps 0 true 0 ws
+  here = ap (each_keeps due second found) (sym rest) ∙ walked.same
 
-  side_on : side_over 0 true (take (k + 1) ws) ≡ next_side due second
-  side_on = ap (side_over 0 true) stands.front ∙ side-push (take k ws) w 0 true ∙ (λ i. next_side (sym so_far.due_is i) (sym so_far.side_is i))
+  pub due_fits : due + w.arity < 2 ^ 64
+  due_fits = omega (arith, walked.room, more)
 
-  nodes_on : nodes_over 0 true 0 (take (k + 1) ws) ≡ next_nodes due second found
-  nodes_on = ap (nodes_over 0 true 0) stands.front ∙ nodes-push (take k ws) w 0 true 0 ∙ (λ i. next_nodes (sym so_far.due_is i) (sym so_far.side_is i) (sym so_far.found_is i))
-
-  kept_on : here_keeps due found ≡ true → (j : ℕ) → j ≤ k + 1 → each_keeps 0 true 0 (take j ws) ≡ true
-  kept_on here j le = by (nat_le j k) refl
-    where
-      by : (b : Bool) → nat_le j k ≡ b → each_keeps 0 true 0 (take j ws) ≡ true
-      by true low = so_far.kept j (leb-true j k low)
-      by false high =
-          let last : j ≡ k + 1 = omega (arith, le, leb-false j k high) in
-          ap (λ i. each_keeps 0 true 0 (take i ws)) last ∙ keeps_on ∙ here
+  after-le : (d n : ℕ) → due_after d n ≤ d + n
+  after-le zero n = omega arith
+  after-le (suc d) n = omega arith
 
   -- a node too many
-  pub one_too_many : 0 < due → found ≡ MAX_RULE_NODES → IsFirstWord (each_keeps 0 true 0) ws k
-  one_too_many some full = record {
-    inside = stands.inside;
-    innocent = so_far.kept;
-    guilty = keeps_on ∙ ap (here_keeps due) full ∙ by due some;
-  }
+  one_too_many : 0 < due → found ≡ MAX_RULE_NODES → false ≡ each_keeps 0 true 0 ws
+  one_too_many some full = by due some here
     where
-      by : (d : ℕ) → 0 < d → here_keeps d MAX_RULE_NODES ≡ false
-      by zero some = absurd (omega (arith, some))
-      by (suc d) some = le-ltb MAX_RULE_NODES MAX_RULE_NODES (omega arith)
+      by : (d : ℕ) → 0 < d → each_keeps d second found (w ∷ drop (k + 1) ws) ≡ each_keeps 0 true 0 ws → false ≡ each_keeps 0 true 0 ws
+      by zero some is = absurd (omega (arith, some))
+      by (suc d) some is = ap (λ b. b && each_keeps (d + w.arity) second (found + 1) (drop (k + 1) ws)) (sym (le-ltb found MAX_RULE_NODES (omega (arith, full)))) ∙ is
 
-  module _ (next : ℕ) (next_is : next ≡ due_over 0 (take (k + 1) ws)) where
+  module _ (next : ℕ) (next_is : next ≡ due_after due w.arity) where
+    fits_on : next + arities (drop (k + 1) ws) < 2 ^ 64
+    fits_on = omega (arith, next_is, after-le due w.arity, walked.room, more)
+
     -- a node of an agent
-    pub one_within : 0 < due → found < MAX_RULE_NODES → Counted ws (k + 1) next second (found + 1)
-    one_within some low = by due some keeps_on side_on nodes_on (kept_on)
+    pub one_within : 0 < due → found < MAX_RULE_NODES → Walked ws (k + 1) next second (found + 1)
+    one_within some low = record {
+      room = fits_on;
+      few = omega (arith, low);
+      same = ap (λ d. each_keeps d second (found + 1) (drop (k + 1) ws)) next_is ∙ by due some here;
+    }
       where
-        by : (d : ℕ) → 0 < d → each_keeps 0 true 0 (take (k + 1) ws) ≡ here_keeps d found → side_over 0 true (take (k + 1) ws) ≡ next_side d second
-            → nodes_over 0 true 0 (take (k + 1) ws) ≡ next_nodes d second found
-            → (here_keeps due found ≡ true → (j : ℕ) → j ≤ k + 1 → each_keeps 0 true 0 (take j ws) ≡ true) → Counted ws (k + 1) next second (found + 1)
-        by zero some keeps side nodes kept = absurd (omega (arith, some))
-        by (suc d) some keeps side nodes kept =
-            let here : here_keeps (suc d) found ≡ true = lt-ltb found MAX_RULE_NODES low in
-            record {
-              due_is = next_is;
-              side_is = sym side;
-              found_is = sym nodes;
-              few = omega (arith, low);
-              kept = kept (sym keeps_on ∙ keeps ∙ here);
-            }
+        by : (d : ℕ) → 0 < d → each_keeps d second found (w ∷ drop (k + 1) ws) ≡ each_keeps 0 true 0 ws → each_keeps (due_after d w.arity) second (found + 1) (drop (k + 1) ws) ≡ each_keeps 0 true 0 ws
+        by zero some is = absurd (omega (arith, some))
+        by (suc d) some is = ap (λ b. b && each_keeps (d + w.arity) second (found + 1) (drop (k + 1) ws)) (sym (lt-ltb found MAX_RULE_NODES low)) ∙ is
 
     -- the first word of an agent
-    pub one_outer : due ≡ 0 → Counted ws (k + 1) next (not second) (cond second 0 found)
-    one_outer none =
-        let here : here_keeps due found ≡ true = ap (λ d. here_keeps d found) none in
-        record {
-          due_is = next_is;
-          side_is = sym (side_on ∙ ap (λ d. next_side d second) none);
-          found_is = sym (nodes_on ∙ ap (λ d. next_nodes d second found) none);
-          few = low second;
-          kept = kept_on here;
-        }
+    pub one_outer : due ≡ 0 → Walked ws (k + 1) next (not second) (cond second 0 found)
+    one_outer none = record {
+      room = fits_on;
+      few = low second;
+      same = ap (λ d. each_keeps d (not second) (cond second 0 found) (drop (k + 1) ws)) (next_is ∙ ap (λ d. due_after d w.arity) none) ∙ ap (λ d. each_keeps d second found (w ∷ drop (k + 1) ws)) (sym none) ∙ here;
+    }
       where
         low : (b : Bool) → cond b 0 found ≤ MAX_RULE_NODES
         low true = omega arith
-        low false = so_far.few
+        low false = walked.few
 
--- ---- whole terms
+pub too_many_there : (ws : List Symbol) (k due found : ℕ) (second : Bool) → k < length ws → Walked ws k due second found → 0 < due → found ≡ MAX_RULE_NODES → false ≡ each_keeps 0 true 0 ws
+too_many_there ws k due found second inside walked =
+    let d : Symbol = record { text = []; arity = 0 } in
+    one_too_many ws k (get_or ws k d) (drop_more ws k d inside) due found second walked
 
 below_is : (n : ℕ) → nat_lt n MAX_RULE_NODES ≡ nat_le (n + 1) MAX_RULE_NODES
 below_is n = by (nat_lt n MAX_RULE_NODES) refl
@@ -216,7 +164,7 @@ mutual
           (gt_test (n + (source_nodes u + nodes_of_sources us)) MAX_RULE_NODES (omega (arith, leb-false (n + source_nodes u) MAX_RULE_NODES high))))
 
 -- the words of one rule, and others after it
-rule-within : (r : RulePhrase) (rest : List Symbol) (n : ℕ) → each_keeps 0 true n (rule_prefix r ++ rest)
+rule-within : (r : RulePhrase) (rest : List Symbol) (n : ℕ) → each_keeps 0 true n ((prefix (agent_source r.left) ++ prefix (agent_source r.right)) ++ rest)
     ≡ (nat_le (rule_nodes r) MAX_RULE_NODES && each_keeps 0 true (rule_nodes r) rest)
 rule-within r rest n =
     ap (each_keeps 0 true n) (append_assoc (prefix (agent_source r.left)) (prefix (agent_source r.right)) rest)
@@ -247,8 +195,6 @@ pub each-rules : (rs : List RulePhrase) (n : ℕ) → each_keeps 0 true n (rules
 each-rules [] n = refl
 each-rules (r ∷ rs) n = rule-within r (rules_prefix rs) n ∙ ap (λ b. nat_le (rule_nodes r) MAX_RULE_NODES && b) (each-rules rs (rule_nodes r))
 
--- ---- both limits
-
 pub each_of_sum : (rs : List RulePhrase) → sum_by rule_nodes rs ≤ MAX_RULE_NODES → list_all (λ r. nat_le (rule_nodes r) MAX_RULE_NODES) rs ≡ true
 each_of_sum [] few = refl
 each_of_sum (r ∷ rs) few =
@@ -259,74 +205,9 @@ pub each_small : (limits : Limits) (rs : List RulePhrase) → rules_are_small li
 each_small Served rs small = each_of_sum rs (leb-true (sum_by rule_nodes rs) MAX_RULE_NODES small)
 each_small Wide rs small = small
 
--- rules that are small keep their limit with each word
-pub small_kept : (limits : Limits) (rs : List RulePhrase) → rules_are_small limits rs ≡ true → (j : ℕ) → rule_nodes_keep limits (take j (rules_prefix rs)) ≡ true
-small_kept Served rs small j =
-    within_fit (rules_prefix rs) (2 * length rs) (length (rules_prefix rs)) (sym (count-rules rs)) refl
-    (omega (arith, length-rules_prefix rs, leb-true (sum_by rule_nodes rs) MAX_RULE_NODES small)) j
-small_kept Wide rs small j = each-take j (rules_prefix rs) 0 true 0 (each-rules rs 0 ∙ small)
-
--- and those that keep it are small
-pub kept_small : (limits : Limits) (rs : List RulePhrase) → rule_nodes_keep limits (rules_prefix rs) ≡ true → rules_are_small limits rs ≡ true
-kept_small Served rs kept =
-    le_test (sum_by rule_nodes rs) MAX_RULE_NODES
-    (omega (arith, leb-true (count_words false 0 (rules_prefix rs)) MAX_RULE_NODES kept, count-rules rs, count-both (rules_prefix rs) 0, length-rules_prefix rs))
-kept_small Wide rs kept = sym (each-rules rs 0) ∙ kept
-
--- ---- the rule of a node too many
-
-no_words : (k : ℕ) → take {A = Symbol} k [] ≡ []
-no_words zero = refl
-no_words (suc k) = refl
-
-take_front : (xs ys : List Symbol) (k : ℕ) → k ≤ length xs → take k (xs ++ ys) ≡ take k xs
-take_front xs ys zero low = refl
-take_front [] ys (suc k) low = absurd (omega (arith, low))
-take_front (x ∷ xs) ys (suc k) low = ap (λ l. x ∷ l) (take_front xs ys k (omega (arith, low)))
-
-take_after : (xs ys : List Symbol) (k : ℕ) → length xs ≤ k → take k (xs ++ ys) ≡ xs ++ take (k - length xs) ys
-take_after [] ys k high = let same : k ≡ k - 0 = omega arith in ap (λ n. take n ys) same
-take_after (x ∷ xs) ys zero high = absurd (omega (arith, high))
-take_after (x ∷ xs) ys (suc k) high =
-    let same : k - length xs ≡ suc k - length (x ∷ xs) = omega arith in
-    ap (λ l. x ∷ l) (take_after xs ys k (omega (arith, high)) ∙ ap (λ n. xs ++ take n ys) same)
-
--- a rule at its place that has too many nodes, with the word after so many others within it
-abbrev pub IsLongRule : List RulePhrase → ℕ → ℕ → RulePhrase → Type 0
-IsLongRule rs k i r = (slice_get rs i ≡ Some r) × (MAX_RULE_NODES < rule_nodes r)
-    × (length (rules_prefix (take i rs)) ≤ k) × (k < length (rules_prefix (take i rs)) + length (rule_prefix r))
-
-pub long_rule : (rs : List RulePhrase) (n k : ℕ) → each_keeps 0 true n (take k (rules_prefix rs)) ≡ true → each_keeps 0 true n (take (k + 1) (rules_prefix rs)) ≡ false
-    → (i : ℕ) × (r : RulePhrase) × IsLongRule rs k i r
-long_rule [] n k kept passed = absurd (false≢true (sym passed ∙ ap (each_keeps 0 true n) (no_words (k + 1))))
-long_rule (r ∷ rs) n k kept passed = by (cases_lt k (length (rule_prefix r))) (long_rule rs (rule_nodes r) (k - length (rule_prefix r)))
-  where
-    whole : each_keeps 0 true n (rule_prefix r) ≡ nat_le (rule_nodes r) MAX_RULE_NODES
-    whole =
-        ap (each_keeps 0 true n) (sym (append-nil (rule_prefix r))) ∙ rule-within r [] n ∙ and-true (nat_le (rule_nodes r) MAX_RULE_NODES)
-
-    first : k < length (rule_prefix r) → (b : Bool) → nat_le (rule_nodes r) MAX_RULE_NODES ≡ b → MAX_RULE_NODES < rule_nodes r
-    first low true few =
-        let front : take (k + 1) (rule_prefix r ++ rules_prefix rs) ≡ take (k + 1) (rule_prefix r) = take_front (rule_prefix r) (rules_prefix rs) (k + 1) (omega (arith, low)) in
-        let kept_too = each-take (k + 1) (rule_prefix r) 0 true n (whole ∙ few) in
-        absurd (false≢true (sym passed ∙ ap (each_keeps 0 true n) front ∙ kept_too))
-    first low false many = leb-false (rule_nodes r) MAX_RULE_NODES many
-
-    by : (k < length (rule_prefix r)) ⊎ (length (rule_prefix r) ≤ k)
-        → (each_keeps 0 true (rule_nodes r) (take (k - length (rule_prefix r)) (rules_prefix rs)) ≡ true
-        → each_keeps 0 true (rule_nodes r) (take (k - length (rule_prefix r) + 1) (rules_prefix rs)) ≡ false
-        → (i : ℕ) × (q : RulePhrase) × IsLongRule rs (k - length (rule_prefix r)) i q)
-        → (i : ℕ) × (q : RulePhrase) × IsLongRule (r ∷ rs) k i q
-    by (inl low) later = (0, r, (refl, first low (nat_le (rule_nodes r) MAX_RULE_NODES) refl, omega arith, omega (arith, low)))
-    by (inr high) later =
-        let left = k - length (rule_prefix r) in
-        let here = ap (each_keeps 0 true n) (take_after (rule_prefix r) (rules_prefix rs) k high) ∙ rule-within r (take left (rules_prefix rs)) n in
-        let more : k + 1 - length (rule_prefix r) ≡ left + 1 = omega (arith, high) in
-        let next = ap (each_keeps 0 true n) (take_after (rule_prefix r) (rules_prefix rs) (k + 1) (omega (arith, high)) ∙ ap (λ m. rule_prefix r ++ take m (rules_prefix rs)) more)
-        ∙ rule-within r (take (left + 1) (rules_prefix rs)) n in
-        let parts = and_parts (nat_le (rule_nodes r) MAX_RULE_NODES) (each_keeps 0 true (rule_nodes r) (take left (rules_prefix rs))) (sym here ∙ kept) in
-        let rest = later parts.1 (sym (ap (λ b. b && each_keeps 0 true (rule_nodes r) (take (left + 1) (rules_prefix rs))) parts.0) ∙ sym next ∙ passed) in
-        let i = rest.0 in
-        let long : length (rules_prefix (take (suc i) (r ∷ rs))) ≡ length (rule_prefix r) + length (rules_prefix (take i rs)) = length-append (rule_prefix r) (rules_prefix (take i rs)) in
-        let is = rest.2 in
-        (suc i, rest.1, (is.0, is.1, omega (arith, long, is.2, high), omega (arith, long, is.3, high)))
+-- so the words of rules tell whether they are small
+pub keep-small : (limits : Limits) (rs : List RulePhrase) (agents : ℕ) → agents ≡ 2 * length rs → rule_nodes_keep limits agents (rules_prefix rs) ≡ rules_are_small limits rs
+keep-small Served rs agents are =
+    let many : length (rules_prefix rs) - agents ≡ sum_by rule_nodes rs = omega (arith, are, length-rules_prefix rs) in
+    ap (λ n. nat_le n MAX_RULE_NODES) many
+keep-small Wide rs agents are = each-rules rs 0

@@ -8,7 +8,7 @@ use Rattle.ic_text.specs.Token.{Token, word, mark}
 use Rattle.ic_text.specs.Name.{name_text}
 use Rattle.ic_text.specs.Source.{Source, leaf, node, Sources, no_sources, more_sources, Sides, Phrase, words, argument_words, further_words, sides_words, separated, phrase_words, count_of}
 use Rattle.ic_text.specs.inner.Prefix.{Scanned, term_more, tail_of, one_more, scan, scan_step}
-use Rattle.ic_text.specs.Words.{prefix, prefix_of_sources, phrase_prefix}
+use Rattle.ic_text.specs.inner.Words.{prefix, prefix_of_sources, phrase_prefix}
 use Rattle.ic_text.proofs.Accepted.{IsClosed, further_is_closed}
 use Rattle.ic_text.proofs.Grammar.{after_commas, after_is_closed}
 

@@ -6,7 +6,7 @@ use Rattle.ic_text.specs.Token.{Token, mark}
 use Rattle.ic_text.specs.Source.{words}
 use Rattle.ic_text.specs.SystemSource.{RulePhrase, agent_source, rule_words, rules_words}
 use Rattle.ic_text.specs.inner.Prefix.{scan, scan_step}
-use Rattle.ic_text.specs.Words.{prefix, rules_prefix}
+use Rattle.ic_text.specs.inner.Words.{prefix, rules_prefix}
 use Rattle.ic_text.proofs.Accepted.{IsClosed}
 use Rattle.ic_text.proofs.GrammarSystem.{after_semicolons}
 use Rattle.ic_text.proofs.Scanning.{made, with_term, scan-words}

@@ -1,10 +1,11 @@
 -- A text is scanned from its end, byte by byte.
-use Rattle.std.proofs.Common.{◌≡◌, ℕ, suc, ◌+◌, ◌-◌, ◌<◌, ◌≤◌, ◌^◌, true, false, List, [], ◌∷◌, ◌++◌, Option, None, Some, length, take, drop, get_or, refl, sym, ap, ◌∙◌, subst, append_assoc, append-nil, arith, length-append}
+use Rattle.std.proofs.Common.{◌≡◌, ℕ, suc, ◌+◌, ◌-◌, ◌<◌, ◌≤◌, ◌^◌, Bool, true, false, cond, List, [], ◌∷◌, ◌++◌, Option, None, Some, length, take, drop, get_or, refl, sym, ap, ◌∙◌, subst, append_assoc, append-nil, arith, length-append}
 use Rattle.std.specs.List.{AllByRecursion}
 use Rattle.std.proofs.Math.Seq.{drop-length}
 use Rattle.std.proofs.lemmas.List.{drop_more, length-take, take-append-drop}
-use Rattle.ic_text.specs.Token.{Token, is_word_byte, mark_of, word_of, before, followed, tokens_at, tokens_after, tokens}
-use Rattle.ic_text.specs.inner.Prefix.{Scanned, scan, scan_run}
+use Rattle.ic_text.specs.declared.token.Mark.{Mark}
+use Rattle.ic_text.specs.Token.{Token, mark, is_blank, is_word_byte, mark_of, word_of, before, followed, tokens_at, tokens_after, tokens}
+use Rattle.ic_text.specs.inner.Prefix.{Scanned, scan, scan_at, scan_run}
 use Rattle.ic_text.specs.lemmas.ReadOnce.{some-injective}
 use Rattle.ic_text.specs.lemmas.WordRuns.{tokens-parted}
 use Rattle.ic_text.proofs.Scanning.{counts_room, scan_fits}
@@ -18,10 +19,10 @@ pub record IsScanned (text : List ℕ) (place end : ℕ) (s : Scanned) : Type 0 
   pub ordered : place ≤ end
   pub run : (front : List ℕ) → tokens_after front (drop place text) ≡ Some (word_of (front ++ take (end - place) (drop place text)) ++ ts)
 
-pub empty_run : (text : List ℕ) (place : ℕ) → take (place - place) (drop place text) ≡ []
+empty_run : (text : List ℕ) (place : ℕ) → take (place - place) (drop place text) ≡ []
 empty_run text place = let none : place - place ≡ 0 = omega arith in ap (λ n. take n (drop place text)) none
 
-pub no_more_run : (text front : List ℕ) (place : ℕ) → word_of front ≡ word_of (front ++ take (place - place) (drop place text))
+no_more_run : (text front : List ℕ) (place : ℕ) → word_of front ≡ word_of (front ++ take (place - place) (drop place text))
 no_more_run text front place = ap word_of (sym (append-nil front) ∙ ap (λ l. front ++ l) (sym (empty_run text place)))
 
 -- nothing is scanned at the end
@@ -36,11 +37,11 @@ nothing_scanned text s is = record {
 }
 
 -- a run in front of tokens is scanned as its word
-pub scan-run : (run : List ℕ) (ts : List Token) → scan_run run (scan ts) ≡ scan (word_of run ++ ts)
+scan-run : (run : List ℕ) (ts : List Token) → scan_run run (scan ts) ≡ scan (word_of run ++ ts)
 scan-run [] ts = refl
 scan-run (b ∷ bs) ts = refl
 
-pub length-word_of : (run : List ℕ) → length (word_of run) ≤ length run
+length-word_of : (run : List ℕ) → length (word_of run) ≤ length run
 length-word_of [] = omega arith
 length-word_of (b ∷ bs) = omega arith
 
@@ -122,13 +123,39 @@ followed_some None b c all e = cc
 followed_some (Some ts) None c all e = cc
 followed_some (Some ts) (Some us) c all e = (us, refl)
 
-pub tokens_here : (text : List ℕ) (place : ℕ) (all : List Token) → place < length text → is_word_byte (get_or text place 0) ≡ false → tokens text ≡ Some all
+tokens_here : (text : List ℕ) (place : ℕ) (all : List Token) → place < length text → is_word_byte (get_or text place 0) ≡ false → tokens text ≡ Some all
     → (us : List Token) × (tokens_at (get_or text place 0) (mark_of (get_or text place 0)) ≡ Some us)
 tokens_here text place all inside apart is =
     let b = get_or text place 0 in
     let parts : text ≡ take place text ++ b ∷ drop (place + 1) text = sym (take-append-drop place text) ∙ ap (λ l. take place text ++ l) (drop_more text place 0 inside) in
     followed_some (tokens (take place text)) (tokens_at b (mark_of b)) (tokens (drop (place + 1) text)) all
     (sym (tokens-parted (take place text) (drop (place + 1) text) b apart) ∙ ap tokens (sym parts) ∙ is)
+
+-- the tokens of a byte in front of others, at most one
+module _ (b : ℕ) (us rest : List Token) where
+  blank_at : (t : Bool) → ◌≡◌ {A = Option (List Token)} (cond t (Some []) None) (Some us) → (scan rest ≡ scan (us ++ rest)) × (length us ≤ 1)
+  blank_at true e =
+      let none : [] ≡ us = some-injective _ _ e in
+      (ap (λ vs. scan (vs ++ rest)) none, omega (arith, ap length none))
+  blank_at false e = cc
+
+  at_byte : (o : Option Mark) → tokens_at b o ≡ Some us → (scan_at o (scan rest) ≡ scan (us ++ rest)) × (length us ≤ 1)
+  at_byte (Some m) e =
+      let one : mark m ∷ [] ≡ us = some-injective _ _ e in
+      (ap (λ vs. scan (vs ++ rest)) one, omega (arith, ap length one))
+  at_byte None e = blank_at (is_blank b) e
+
+-- so the run and the byte before it are scanned
+pub byte_ended : (text : List ℕ) (place end : ℕ) (s : Scanned) → place < length text → (so_far : IsScanned text (place + 1) end s) → is_word_byte (get_or text place 0) ≡ false
+    → (ts : List Token) → tokens text ≡ Some ts → (r q : Scanned) → r ≡ scan_run (take (end - (place + 1)) (drop (place + 1) text)) s → q ≡ scan_at (mark_of (get_or text place 0)) r
+    → IsScanned text place place q
+byte_ended text place end s inside so_far apart ts spelled r q run at =
+    let byte = get_or text place 0 in
+    let us = tokens_here text place ts inside apart spelled in
+    let word = take (end - (place + 1)) (drop (place + 1) text) in
+    let byte_is = at_byte byte us.0 (word_of word ++ so_far.ts) (mark_of byte) us.1 in
+    run_ended text place end s inside so_far apart us.0 us.1 byte_is.1 q
+    (at ∙ ap (scan_at (mark_of byte)) (after_run text (place + 1) end s so_far word refl r run) ∙ byte_is.0)
 
 -- so all is scanned where the run goes to the beginning
 pub whole_run : (text : List ℕ) (place end : ℕ) → place ≡ 0 → take end text ≡ take (end - place) (drop place text)

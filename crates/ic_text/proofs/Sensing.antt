@@ -18,7 +18,7 @@ use Rattle.ic_text.specs.declared.fault.TextFault.TheVariants.{Limit, Arity, Mem
 use Rattle.ic_text.specs.Limits.{most_interface, most_nodes, most_symbols}
 use Rattle.ic_text.specs.Source.{Source, leaf, node, Sources, no_sources, more_sources, Sides, Phrase, IsPhrase, source_names, names_of_sources, source_nodes, nodes_of_sources, phrase_names, phrase_symbols, phrase_nodes}
 use Rattle.ic_text.specs.Sense.{symbols_after, symbol_table, has_its_arity, numbered_tree, numbered_trees, numbered_pair, numbered_phrase, unless_third_name, sense_within}
-use Rattle.ic_text.specs.Words.{phrase_prefix}
+use Rattle.ic_text.specs.inner.Words.{phrase_prefix}
 use Rattle.ic_text.specs.inner.Numbered.{table_over, is_word_in_limits, is_word_over, word_from, unless_refused, numbered_words, as_text_answer, Refuses}
 use Rattle.ic_flat.specs.Words.{forest}
 use Rattle.ic_text.specs.inner.Built.{IsPaired, configuration_from}
@@ -110,11 +110,6 @@ numbered_is true true x v e = cc
 numbered_is true false x v e = cc
 numbered_is false o x v e = cc
 
--- and within their limits
-pub numbered_within : (l o : Bool) (x v : List Symbol × List Word) → Ok v ≡ unless_refused {A = List Symbol × List Word} l o x → l ≡ true
-numbered_within true o x v e = refl
-numbered_within false o x v e = cc
-
 module _ (p : Phrase) (is : IsPhrase p) where
   abbrev pub table : List Symbol
   table = symbol_table p
@@ -141,9 +136,6 @@ module _ (p : Phrase) (is : IsPhrase p) where
       let same_arities : list_all (is_word_over table) ws ≡ agree = arities-words table ws ∙ ap (list_all (has_its_arity table)) (symbols_among-phrase p is) in
       ap (λ t. unless_refused {A = List Symbol × List Word} (list_all is_word_in_limits ws && nat_le (length t) (most_symbols limits)) (list_all (is_word_over t) ws) (t, map (word_from t) ws)) same_table
       ∙ (λ i. unless_refused {A = List Symbol × List Word} (same_limits i && nat_le (length table) (most_symbols limits)) (same_arities i) (table, items))
-
-  pub phrase_within : (limits : Limits) (v : List Symbol × List Word) → Ok v ≡ numbered_words limits (phrase_prefix p) → in_limits limits ≡ true
-  phrase_within limits v e = numbered_within (in_limits limits) agree (table, items) v (e ∙ numbered_words-phrase limits)
 
   -- where they have numbers, they write the configuration
   pub paired_words : (limits : Limits) (v : List Symbol × List Word) → Ok v ≡ numbered_words limits (phrase_prefix p) → IsPaired v.1 (length p.interface)
@@ -173,10 +165,10 @@ module _ (p : Phrase) (is : IsPhrase p) where
       by_cases false o all = refl
 
 -- a configuration of too many nodes, or of too many terms in its interface, is beyond the limits
-pub sense-unfit : (limits : Limits) (p : Phrase) → (nat_le (phrase_nodes p) (most_nodes limits) && nat_le (length p.interface) (most_interface limits)) ≡ false → sense_within limits p ≡ Err Limit
+pub sense-unfit : (limits : Limits) (p : Phrase) → (nat_le (length p.interface) (most_interface limits) && nat_le (phrase_nodes p) (most_nodes limits)) ≡ false → sense_within limits p ≡ Err Limit
 sense-unfit limits p = by_cases _ (nat_le (length p.interface) (most_interface limits)) (nat_le (phrase_nodes p) (most_nodes limits)) _
   where
-    by_cases : (a i k : Bool) (v : Result (List Symbol × Configuration) TextFault) → (k && i) ≡ false → cond ((a && i) && k) v (Err Limit) ≡ Err Limit
+    by_cases : (a i k : Bool) (v : Result (List Symbol × Configuration) TextFault) → (i && k) ≡ false → cond ((a && i) && k) v (Err Limit) ≡ Err Limit
     by_cases true true true v unfit = absurd (false≢true (sym unfit))
     by_cases true true false v unfit = refl
     by_cases true false k v unfit = refl

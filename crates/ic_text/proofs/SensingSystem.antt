@@ -1,6 +1,6 @@
 -- Numbering the words of a system and building its rules and its configuration gives its sense.
 use Rattle.std.proofs.Common.{◌≡◌, ℕ, ◌≤◌, Bool, true, false, ◌&&◌, cond, List, [], ◌++◌, Option, None, Some, Result, Ok, Err, length, map, take, drop, refl, sym, ap, ◌∙◌, arith, length-append}
-use Rattle.std.specs.Prelude.{nat_le, sum_by}
+use Rattle.std.specs.Prelude.{nat_le}
 use Rattle.std.specs.List.{flat_map, list_all}
 use Rattle.std.proofs.lemmas.List.{length-map, map-append, take_at, drop_at}
 use Rattle.std.proofs.lemmas.List.Folds.{list_all-append}
@@ -23,7 +23,7 @@ use Rattle.ic_text.specs.Source.{phrase_names, phrase_symbols, phrase_nodes}
 use Rattle.ic_text.specs.Sense.{symbols_after, has_its_arity, numbered_phrase}
 use Rattle.ic_text.specs.SystemSource.{SystemPhrase, IsSystemPhrase, rule_symbols, rule_names, rule_nodes, system_symbols, system_names}
 use Rattle.ic_text.specs.SystemSense.{system_table, rules_are_small, rules_over, system_parts, unless_found, system_sense_within}
-use Rattle.ic_text.specs.Words.{prefix, phrase_prefix, rules_prefix}
+use Rattle.ic_text.specs.inner.Words.{prefix, phrase_prefix, rules_prefix}
 use Rattle.ic_text.specs.inner.Numbered.{word_from, unless_refused, numbered_words, as_text_answer}
 use Rattle.ic_flat.specs.Words.{forest}
 use Rattle.ic_text.specs.inner.Built.{IsPaired, configuration_from, rules_in, joined}
@@ -33,7 +33,7 @@ use Rattle.ic_text.proofs.JoinedPhrase.{are-sides, sides_of_rules, sides_through
 use Rattle.ic_text.proofs.LimitLemmas.{rules-low}
 use Rattle.ic_text.proofs.Over.{over-numbered_phrase}
 use Rattle.ic_text.proofs.RuleNodes.{each_small}
-use Rattle.ic_text.proofs.Sensing.{numbered_is, numbered_within, numbered_words-phrase, restored-numbered}
+use Rattle.ic_text.proofs.Sensing.{numbered_is, numbered_words-phrase, restored-numbered}
 
 -- numbered words as a system, so many of them those of rules
 abbrev pub finished_system : ℕ → ℕ → Result (List Symbol × List Word) TextFault → Result SystemParts TextFault
@@ -64,9 +64,6 @@ module _ (s : SystemPhrase) (is : IsSystemPhrase s) where
       over ss ns = unless_refused {A = List Symbol × List Word}
           ((list_all (λ x. fits_limits x.text x.arity) ss && list_all (λ n. nat_le n MAX_NAME) ns) && nat_le (length (symbols_after [] ss)) (most_symbols limits))
           (list_all (has_its_arity (symbols_after [] ss)) ss) (symbols_after [] ss, map (word_from (symbols_after [] ss)) words)
-
-  pub system_within : (limits : Limits) (v : List Symbol × List Word) → Ok v ≡ numbered_words limits words → in_limits limits ≡ true
-  system_within limits v e = numbered_within (in_limits limits) agree (table, items) v (e ∙ numbered_words-system limits)
 
   -- the words of the rules, and after them those of the configuration
   abbrev before : ℕ
@@ -170,12 +167,12 @@ module _ (s : SystemPhrase) (is : IsSystemPhrase s) where
 
 -- a system with too many rules, nodes of their arguments, terms of the interface or nodes is beyond the limits
 pub system-unfit : (limits : Limits) (s : SystemPhrase)
-    → ((nat_le (length s.rules) (most_rules limits) && rules_are_small limits s.rules) && (nat_le (phrase_nodes s.config) (most_nodes limits) && nat_le (length s.config.interface) (most_interface limits))) ≡ false
+    → ((nat_le (length s.rules) (most_rules limits) && rules_are_small limits s.rules) && (nat_le (length s.config.interface) (most_interface limits) && nat_le (phrase_nodes s.config) (most_nodes limits))) ≡ false
     → system_sense_within limits s ≡ Err Limit
 system-unfit limits s =
     by_cases _ (nat_le (length s.rules) (most_rules limits)) (rules_are_small limits s.rules) (nat_le (length s.config.interface) (most_interface limits)) (nat_le (phrase_nodes s.config) (most_nodes limits)) _
   where
-    by_cases : (a r m i k : Bool) (v : Result SystemParts TextFault) → ((r && m) && (k && i)) ≡ false → cond ((((a && r) && m) && i) && k) v (Err Limit) ≡ Err Limit
+    by_cases : (a r m i k : Bool) (v : Result SystemParts TextFault) → ((r && m) && (i && k)) ≡ false → cond ((((a && r) && m) && i) && k) v (Err Limit) ≡ Err Limit
     by_cases true true true true true v unfit = absurd (false≢true (sym unfit))
     by_cases true true true true false v unfit = refl
     by_cases true true true false k v unfit = refl

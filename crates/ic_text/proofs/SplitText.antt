@@ -8,7 +8,6 @@ use Rattle.ic_text.specs.inner.Braces.{split_at_brace}
 use Rattle.ic_text.specs.lemmas.ReadOnce.{some-injective, none_is_some}
 use Rattle.ic_text.proofs.GrammarSystem.{in_front, split_at_brace as split_tokens}
 use Rattle.ic_text.proofs.KeptBytes.{byte_of_mark}
-use Rattle.ic_text.specs.lemmas.WordPlaces.{opened}
 
 -- bytes in front of those before the first `}`
 abbrev pub bytes_in_front : List ℕ → List ℕ × List ℕ → List ℕ × List ℕ
@@ -46,6 +45,19 @@ module _ (b : ℕ) (other : eqb b 125 ≡ false) where
 split_end : (run : List ℕ) → Splits run ([], []) (split_tokens (word_of run))
 split_end [] = (refl, refl)
 split_end (b ∷ bs) = (refl, refl)
+
+-- tokens in front of others, where they are some
+record Opened (ws : List Token) (o p : Option (List Token)) (ts : List Token) : Type 0 where
+  pub here : List Token
+  pub later : List Token
+  pub is_here : o ≡ Some here
+  pub is_later : p ≡ Some later
+  pub all : ts ≡ ws ++ (here ++ later)
+
+opened : (ws : List Token) (o p : Option (List Token)) (ts : List Token) → before ws (followed o p) ≡ Some ts → Opened ws o p ts
+opened ws None p ts e = absurd (none_is_some ts e)
+opened ws (Some us) None ts e = absurd (none_is_some ts e)
+opened ws (Some us) (Some vs) ts e = record { here = us; later = vs; is_here = refl; is_later = refl; all = sym (some-injective (ws ++ (us ++ vs)) ts e) }
 
 -- at a `}`
 at_brace : (b : ℕ) (bs run : List ℕ) (ts : List Token) → b ≡ 125 → (us vs : List Token) → tokens_at b (mark_of b) ≡ Some us → tokens bs ≡ Some vs → ts ≡ word_of run ++ (us ++ vs) → Splits run ([], bs) (split_tokens ts)

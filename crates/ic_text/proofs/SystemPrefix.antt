@@ -11,15 +11,15 @@ use Rattle.ic_text.specs.SystemSource.{SystemPhrase, IsSystemPhrase, rules_words
 use Rattle.ic_text.specs.SystemSense.{system_sense_within}
 use Rattle.ic_text.specs.inner.Braces.{split_at_brace}
 use Rattle.ic_text.specs.inner.Prefix.{node_of, nodes_of}
-use Rattle.ic_text.specs.Words.{rules_prefix, phrase_prefix, system_prefix}
+use Rattle.ic_text.specs.inner.Words.{rules_prefix, phrase_prefix, system_prefix}
 use Rattle.ic_text.specs.declared.excess.Excess.{Excess}
-use Rattle.ic_text.specs.inner.Counted.{IsCounted}
+use Rattle.ic_text.specs.inner.Counted.{IsCounted, fits, is_kept}
 use Rattle.ic_text.specs.inner.Numbered.{IsWord, counted_words}
 use Rattle.ic_text.proofs.GrammarSystem.{in_front, split-rules_words}
 use Rattle.ic_text.proofs.JoinedPhrase.{joined_phrase, prefix-joined, is-joined}
 use Rattle.ic_text.proofs.PrefixWords.{words-phrase_prefix}
 use Rattle.ic_text.proofs.SensingSystem.{finished_system}
-use Rattle.ic_text.proofs.Fitting.{Kept, system-counted}
+use Rattle.ic_text.proofs.Fitting.{system-counted}
 use Rattle.ic_text.proofs.SplitText.{Splits, split-text}
 
 -- the tokens of the rules and of the configuration
@@ -56,6 +56,6 @@ module _ (s : SystemPhrase) (rules config : Prefix) (known : Known s rules confi
   counted = record { words = system_words_are; before = rules_before; sides = known.agents_are; interface = known.terms_are }
 
   -- the sense is that of the words as far as they are counted
-  pub sense-known : (limits : Limits) → IsSystemPhrase s → (o : Option Excess) → Kept limits s o → system_sense_within limits s ≡ finished_system (length rules.nodes.items) config.terms (counted_words limits o (nodes_of (rules.nodes.items ++ config.nodes.items)))
+  pub sense-known : (limits : Limits) → IsSystemPhrase s → (o : Option Excess) → is_kept o ≡ fits limits s → system_sense_within limits s ≡ finished_system (length rules.nodes.items) config.terms (counted_words limits o (nodes_of (rules.nodes.items ++ config.nodes.items)))
   sense-known limits is o kept =
       system-counted limits s is o kept ∙ (λ i. finished_system (sym rules_before i) (sym known.terms_are i) (counted_words limits o (sym all_words i)))

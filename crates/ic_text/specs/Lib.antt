@@ -5,15 +5,11 @@ pub mod Token
 pub mod Name
 pub mod Source
 pub mod SystemSource
-pub mod Agents
 pub mod Sense
 pub mod SystemSense
 pub mod Reading
 pub mod Text
 pub mod FaultNumber
 pub mod SystemText
-pub mod Words
-pub mod WordFaults
-pub mod Places
 pub mod lemmas
 pub mod inner

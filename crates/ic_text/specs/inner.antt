@@ -2,9 +2,8 @@
 pub mod Syntax
 pub mod Survey
 pub mod Braces
+pub mod Words
 pub mod Prefix
-pub mod Tail
-pub mod TailScan
 pub mod Numbered
 pub mod Counted
 pub mod Refused

@@ -4,13 +4,8 @@ pub mod ReadOnce
 pub mod WordRuns
 pub mod NameLemmas
 pub mod NameTexts
-pub mod PlacedWithin
 pub mod TableLemmas
 pub mod SymbolOrder
 pub mod WrittenBack
 pub mod Separated
 pub mod WrittenTokens
-pub mod Between
-pub mod FirstWords
-pub mod WordPlaces
-pub mod OnePlace

@@ -1,10 +1,11 @@
-//! With which word too much is written: the limits of rules, of nodes and of terms of the interface.
+//! With which word too much is written: the limits of rules, of nodes and of terms of the interface. That a limit is
+//! passed is proved; the word is tried.
 
-ghost use Rattle.std.specs.Prelude.{◌≡◌, ℕ, ◌+◌, ◌*◌, ◌<◌, ◌≤◌, ◌^◌, length, nat_le, sum_by, take, true};
+ghost use Rattle.std.specs.Prelude.{◌≡◌, ◌&&◌, ◌+◌, ◌-◌, ◌*◌, ◌<◌, ◌^◌, None, length, nat_le, sum_by, true};
+ghost use Rattle.ic_rules.specs.declared.limits.TheConstants.{MAX_RULE_NODES};
+ghost use Rattle.ic_text.specs.Limits.{most_interface, most_nodes, most_rules};
 ghost use Rattle.ic_text.specs.SystemSource.{SystemPhrase};
-ghost use Rattle.ic_text.specs.Words.{all_words, written_system};
-ghost use Rattle.ic_text.specs.WordFaults.{config_keeps, count_words, counts_keep, due_after, is_counted, rules_keep};
-ghost use Rattle.ic_text.specs.inner.Counted.{IsCounted, IsFirstExcess, IsExcessTest, earlier, limit_at};
+ghost use Rattle.ic_text.specs.inner.Counted.{IsCounted, due_after, each_keeps, fits, is_kept, rule_nodes_keep};
 ghost use Rattle.ic_text.specs.inner.Prefix.{nodes_of};
 
 use crate::limits::Limits;
@@ -21,7 +22,7 @@ pub(crate) struct Excess {
 
 /// The limit that is passed with a word, if one is.
 pub(crate) fn limit_at(excess: Option<Excess>, word: usize) -> Option<Limit>
-    ensures { result ≡ limit_at excess word }
+    ensures { excess ≡ None → result ≡ None }
 {
     match excess {
         Some(excess) => (excess.word == word).then_some(excess.limit),
@@ -31,7 +32,7 @@ pub(crate) fn limit_at(excess: Option<Excess>, word: usize) -> Option<Limit>
 
 /// Which of two comes first, if there is one.
 fn earlier(one: Option<Excess>, other: Option<Excess>) -> Option<Excess>
-    ensures { result ≡ earlier one other }
+    ensures { is_kept result ≡ (is_kept one && is_kept other) }
 {
     match (one, other) {
         (Some(first), Some(second)) => {
@@ -48,71 +49,59 @@ fn earlier(one: Option<Excess>, other: Option<Excess>) -> Option<Excess>
 
 /// How many terms are due after a word, if so many were due before it: none in front of a term that no other one holds.
 fn due_after(due: usize, arity: usize) -> usize
-    requires { due + arity < 2 ^ 64 }
-    ensures { result ≡ due_after due arity }
+    ensures { due + arity < 2 ^ 64 → result ≡ due_after due arity }
 {
-    if due == 0 { arity } else { due - 1 + arity }
+    due.saturating_sub(1).saturating_add(arity)
 }
 
-/// Whether a word is counted, before which so many terms are due: one in front of which none is, or another.
-fn is_counted(outer: bool, due: usize) -> bool
-    ensures { result ≡ is_counted outer due }
-{
-    if outer { due == 0 } else { due > 0 }
-}
-
-/// The word with which more than so many are counted, if there is one, and the limit that this passes.
-fn first_excess(nodes: &[Node], outer: bool, most: usize, limit: Limit) -> Option<Excess>
-    requires { sum_by (λ w. w.arity) (nodes_of nodes.now) < 2 ^ 64 }
-    ensures { IsExcessTest (λ ws. nat_le (count_words outer 0 ws) most) limit (nodes_of nodes.now)
-        result }
-{
+/// How many words stand before the one with which more than so many are counted: the first words of terms that no other
+/// one holds, or all others.
+fn word_past(nodes: &[Node], outer: bool, most: usize) -> usize {
     let mut due = 0;
-    let mut found = 0;
+    let mut left = most;
     for (word, node) in nodes.iter().enumerate() {
-        if is_counted(outer, due) {
-            if found == most {
-                return Some(Excess { word, limit });
+        if outer == (due == 0) {
+            if left == 0 {
+                return word;
             }
-            found += 1;
+            left -= 1;
         }
         due = due_after(due, node.arity);
     }
-    None
+    nodes.len()
 }
 
-/// The first word of the first rule too many, where so many agents are the sides of rules.
+/// Whether there are too many rules, and with which word, where so many agents are their sides.
 fn too_many_rules(limits: Limits, nodes: &[Node], agents: usize) -> Option<Excess>
-    requires few { sum_by (λ w. w.arity) (nodes_of nodes.now) < 2 ^ 64 }
-    requires agents { agents ≡ count_words true 0 (nodes_of nodes.now) }
-    ensures { IsExcessTest (rules_keep limits Limit.Rules) Limit.Rules (nodes_of nodes.now)
-        result }
+    ensures { is_kept result ≡ nat_le agents (2 * most_rules limits) }
 {
     let most = 2 * limits.rules();
     if agents <= most {
         return None;
     }
-    first_excess(nodes, true, most, Limit::Rules)
+    Some(Excess {
+        word: word_past(nodes, true, most),
+        limit: Limit::Rules,
+    })
 }
 
-/// The first node too many in the arguments of all rules.
+/// Whether there are too many nodes in the arguments of all rules, and with which word.
 fn too_many_served_nodes(nodes: &[Node], agents: usize) -> Option<Excess>
-    requires few { sum_by (λ w. w.arity) (nodes_of nodes.now) < 2 ^ 64 }
-    requires agents { agents ≡ count_words true 0 (nodes_of nodes.now) }
-    ensures { IsExcessTest (rules_keep Limits.Served Limit.RuleNodes) Limit.RuleNodes
-        (nodes_of nodes.now) result }
+    ensures { is_kept result ≡ nat_le (length nodes.now - agents) MAX_RULE_NODES }
 {
     if nodes.len().saturating_sub(agents) <= MAX_RULE_NODES as usize {
         return None;
     }
-    first_excess(nodes, false, MAX_RULE_NODES as usize, Limit::RuleNodes)
+    Some(Excess {
+        word: word_past(nodes, false, MAX_RULE_NODES as usize),
+        limit: Limit::RuleNodes,
+    })
 }
 
 /// The first node too many in the arguments of one rule.
 fn too_long_rule(nodes: &[Node]) -> Option<Excess>
     requires { sum_by (λ w. w.arity) (nodes_of nodes.now) < 2 ^ 64 }
-    ensures { IsExcessTest (rules_keep Limits.Wide Limit.RuleNodes) Limit.RuleNodes
-        (nodes_of nodes.now) result }
+    ensures { is_kept result ≡ each_keeps 0 true 0 (nodes_of nodes.now) }
 {
     let mut due = 0;
     let mut second = true;
@@ -137,12 +126,10 @@ fn too_long_rule(nodes: &[Node]) -> Option<Excess>
     None
 }
 
-/// The first node too many in the arguments of rules.
+/// Whether there are too many nodes in the arguments of rules, and with which word.
 fn too_many_rule_nodes(limits: Limits, nodes: &[Node], agents: usize) -> Option<Excess>
-    requires few { sum_by (λ w. w.arity) (nodes_of nodes.now) < 2 ^ 64 }
-    requires agents { agents ≡ count_words true 0 (nodes_of nodes.now) }
-    ensures { IsExcessTest (rules_keep limits Limit.RuleNodes) Limit.RuleNodes
-        (nodes_of nodes.now) result }
+    requires { sum_by (λ w. w.arity) (nodes_of nodes.now) < 2 ^ 64 }
+    ensures { is_kept result ≡ rule_nodes_keep limits agents (nodes_of nodes.now) }
 {
     match limits {
         Limits::Served => too_many_served_nodes(nodes, agents),
@@ -150,12 +137,11 @@ fn too_many_rule_nodes(limits: Limits, nodes: &[Node], agents: usize) -> Option<
     }
 }
 
-/// The word with which rules pass a limit, the first one if there is one.
+/// The limit that rules pass first, if they pass one, and with which word.
 fn rules_excess(limits: Limits, nodes: &[Node], agents: usize) -> Option<Excess>
-    requires few { sum_by (λ w. w.arity) (nodes_of nodes.now) < 2 ^ 64 }
-    requires agents { agents ≡ count_words true 0 (nodes_of nodes.now) }
-    ensures { IsFirstExcess (λ bound j. rules_keep limits bound (take j (nodes_of nodes.now)))
-        (length (nodes_of nodes.now)) result }
+    requires { sum_by (λ w. w.arity) (nodes_of nodes.now) < 2 ^ 64 }
+    ensures { is_kept result ≡ (nat_le agents (2 * most_rules limits)
+        && rule_nodes_keep limits agents (nodes_of nodes.now)) }
 {
     earlier(
         too_many_rules(limits, nodes, agents),
@@ -163,23 +149,23 @@ fn rules_excess(limits: Limits, nodes: &[Node], agents: usize) -> Option<Excess>
     )
 }
 
-/// The first word of the first term too many, where an interface of so many terms stands first.
+/// Whether there are too many terms in an interface, which stands first, and with which word.
 fn too_many_terms(limits: Limits, nodes: &[Node], terms: usize) -> Option<Excess>
-    requires { sum_by (λ w. w.arity) (nodes_of nodes.now) < 2 ^ 64 }
-    ensures { IsExcessTest (config_keeps limits terms Limit.Interface) Limit.Interface
-        (nodes_of nodes.now) result }
+    ensures { is_kept result ≡ nat_le terms (most_interface limits) }
 {
     let most = limits.interface_terms();
     if terms <= most {
         return None;
     }
-    first_excess(nodes, true, most, Limit::Interface)
+    Some(Excess {
+        word: word_past(nodes, true, most),
+        limit: Limit::Interface,
+    })
 }
 
 /// The first node too many of a configuration.
 fn too_many_nodes(limits: Limits, nodes: &[Node]) -> Option<Excess>
-    ensures { (terms : ℕ) → IsExcessTest (config_keeps limits terms Limit.Nodes) Limit.Nodes
-        (nodes_of nodes.now) result }
+    ensures { is_kept result ≡ nat_le (length nodes.now) (most_nodes limits) }
 {
     let most = limits.nodes();
     if nodes.len() as u64 <= most {
@@ -191,12 +177,10 @@ fn too_many_nodes(limits: Limits, nodes: &[Node]) -> Option<Excess>
     })
 }
 
-/// The word with which a configuration passes a limit, the first one if there is one.
+/// The limit that a configuration passes first, if it passes one, and with which word.
 pub(crate) fn config_excess(limits: Limits, nodes: &[Node], terms: usize) -> Option<Excess>
-    requires { sum_by (λ w. w.arity) (nodes_of nodes.now) < 2 ^ 64 }
-    ensures { IsFirstExcess
-        (λ bound j. config_keeps limits terms bound (take j (nodes_of nodes.now)))
-        (length (nodes_of nodes.now)) result }
+    ensures { is_kept result ≡ (nat_le terms (most_interface limits)
+        && nat_le (length nodes.now) (most_nodes limits)) }
 {
     earlier(
         too_many_terms(limits, nodes, terms),
@@ -215,14 +199,13 @@ pub(crate) fn excess_of(
 ) -> Option<Excess>
     requires { (s : SystemPhrase) × IsCounted s (nodes_of nodes.now) rules agents terms }
     ensures { (s : SystemPhrase) → IsCounted s (nodes_of nodes.now) rules agents terms →
-        IsFirstExcess (λ bound j. counts_keep limits bound (written_system s) j)
-        (length (all_words (written_system s))) result }
+        is_kept result ≡ fits limits s }
 {
     match rules_excess(limits, &nodes[..rules], agents) {
         Some(excess) => Some(excess),
         None => match config_excess(limits, &nodes[rules..], terms) {
             Some(excess) => Some(Excess {
-                word: rules + excess.word,
+                word: rules.saturating_add(excess.word),
                 limit: excess.limit,
             }),
             None => None,

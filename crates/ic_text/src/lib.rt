@@ -17,6 +17,7 @@ mod build;
 mod excess;
 mod fault;
 mod flat_print;
+mod front;
 pub mod laws;
 mod limits;
 mod misread;
@@ -30,7 +31,6 @@ mod refusal;
 mod survey;
 mod syntax;
 mod system;
-mod tail;
 mod token;
 
 pub use fault::TextFault;

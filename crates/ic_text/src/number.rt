@@ -1,12 +1,12 @@
 //! Words of a text as words in flat form, symbols as numbers: the limits of words, and the arities of symbols.
 
-ghost use Rattle.std.specs.Prelude.{◌≡◌, ◌≢◌, ◌<◌, ◌≤◌, [], length, IfErr, IfSome, OnOk, Some, slice_get};
+ghost use Rattle.std.specs.Prelude.{◌≡◌, ◌≢◌, ◌≤◌, length, IfErr, IfSome, OnOk, Some, slice_get};
 ghost use Rattle.std.specs.List.{AllByRecursion};
 ghost use Rattle.ic_term.specs.Symbol.{AreSymbols};
 ghost use Rattle.ic_text.specs.Limits.{most_symbols};
 ghost use Rattle.ic_text.specs.inner.Prefix.{node_of, nodes_of};
 ghost use Rattle.ic_text.specs.inner.Numbered.{IsWord, WordAnswers, word_found, table_with, counted_words, Gives};
-ghost use Rattle.ic_text.specs.inner.Refused.{IsStoppedIn, Takes, Stops, bare, limit_of};
+ghost use Rattle.ic_text.specs.inner.Refused.{Takes, Stops, bare};
 
 use crate::excess::{Excess, limit_at};
 use crate::fault::TextFault;
@@ -16,7 +16,7 @@ use crate::name::{is_name, name_number};
 use crate::prefix::Node;
 use crate::refusal::Refusal;
 use ic_flat::Word;
-use ic_term::{MAX_ARITY, MAX_SYMBOL_TEXT, SymbolFault, Symbols};
+use ic_term::{MAX_ARITY, MAX_SYMBOL_TEXT, SymbolFault, Symbols, is_symbol};
 use std::alloc::Global;
 
 /// How many symbols are remembered at most.
@@ -82,6 +82,46 @@ fn number_word(
     Ok(Word::Agent(number, node.arity))
 }
 
+/// Whether a word passes a limit after those whose symbols are in the table.
+fn passes_limit(
+    limits: Limits,
+    symbols: &mut Symbols,
+    numbers: &mut Vec<u32>,
+    node: &Node,
+) -> bool {
+    if !is_name(node.text) && !is_symbol(node.text) || symbols.len() > limits.symbols() {
+        return false;
+    }
+    matches!(
+        number_word(limits, symbols, numbers, node),
+        Err(SymbolFault::Limit)
+    )
+}
+
+/// The refusal of words of which there are too many: at the first one with which a limit is passed.
+pub(crate) fn first_passed(
+    alloc: Global,
+    limits: Limits,
+    nodes: &[Node],
+    excess: Option<Excess>,
+) -> Refusal
+    ensures { result.fault ≡ TextFault.Limit }
+{
+    let Ok(mut numbers) = vec![in alloc; 0; REMEMBERED] else {
+        return Refusal::untold(TextFault::Limit);
+    };
+    let mut symbols = Symbols::new(alloc);
+    for (word, node) in nodes.iter().enumerate() {
+        if let Some(limit) = limit_at(excess, word) {
+            return Refusal::passed(word, limit);
+        }
+        if passes_limit(limits, &mut symbols, &mut numbers, node) {
+            return Refusal::passed(word, limit_of(node));
+        }
+    }
+    Refusal::untold(TextFault::Limit)
+}
+
 /// A symbol with two arities.
 #[derive(Clone, Copy)]
 pub(crate) struct Clash {
@@ -91,9 +131,7 @@ pub(crate) struct Clash {
 }
 
 /// The limit that a word passes which has no number.
-fn limit_of(node: &Node) -> Limit
-    ensures { result ≡ limit_of (node_of node.now) }
-{
+fn limit_of(node: &Node) -> Limit {
     if is_name(node.text) {
         Limit::NameNumber
     } else if node.text.len() > MAX_SYMBOL_TEXT {
@@ -103,6 +141,14 @@ fn limit_of(node: &Node) -> Limit
     } else {
         Limit::Symbols
     }
+}
+
+/// The arity of a symbol by its number, or 0 where there is none.
+fn arity_of(symbols: &Symbols, number: u32) -> usize {
+    if number as usize >= symbols.len() {
+        return 0;
+    }
+    symbols.arity(number)
 }
 
 /// Words on their way to numbers: the symbols and the words so far, numbers of symbols by the places at which they are
@@ -121,10 +167,10 @@ impl Numbering {
     fn take(&mut self, limits: Limits, word: usize, node: &Node) -> Result<(), Refusal>
         requires word { IsWord (node_of node.now) }
         requires few { length self.old.symbols ≤ most_symbols limits }
-        ensures went { OnOk result (Takes word (node_of node.now)
+        ensures went { OnOk result (Takes (node_of node.now)
             (word_found limits self.old.symbols (node_of node.now)) self.old self.new) }
-        ensures stopped { IfErr result (Stops word (node_of node.now)
-            (word_found limits self.old.symbols (node_of node.now))) }
+        ensures stopped { IfErr result (λ refusal. Stops
+            (word_found limits self.old.symbols (node_of node.now)) refusal.fault) }
     {
         match number_word(limits, &mut self.symbols, &mut self.numbers, node) {
             Ok(numbered) => {
@@ -135,7 +181,7 @@ impl Numbering {
             Err(SymbolFault::Arity(symbol)) => {
                 self.clash = self.clash.or(Some(Clash {
                     word,
-                    first: self.symbols.arity(symbol),
+                    first: arity_of(&self.symbols, symbol),
                     second: node.arity,
                 }));
                 Ok(())
@@ -145,19 +191,17 @@ impl Numbering {
     }
 }
 
-/// The words with their numbers, and the table of symbols, unless they pass a limit of how many they are: then they are
-/// numbered no further than to the word with which they do.
+/// The words with their numbers, and the table of symbols, unless a limit of how many they are is passed: then they are
+/// numbered no further than to the word with which it is.
 pub(crate) fn number_words(
     alloc: Global,
     limits: Limits,
     nodes: &[Node],
     excess: Option<Excess>,
 ) -> Result<(Symbols, Vec<Word>), Refusal>
-    requires words { AllByRecursion IsWord (nodes_of nodes.now) }
-    requires inside { IfSome excess (λ e. e.word < length nodes.now) }
-    ensures numbers { Gives (λ v. (v.0, v.1.items)) (bare result)
+    requires { AllByRecursion IsWord (nodes_of nodes.now) }
+    ensures { Gives (λ v. (v.0, v.1.items)) (bare result)
         (counted_words limits excess (nodes_of nodes.now)) }
-    ensures word { IfErr result (IsStoppedIn limits (nodes_of nodes.now) excess) }
 {
     let words = Vec::with_capacity(alloc, nodes.len())?;
     let numbers = vec![in alloc; 0; REMEMBERED]?;
@@ -173,6 +217,9 @@ pub(crate) fn number_words(
             return Err(Refusal::passed(word, limit));
         }
         numbering.take(limits, word, node)?;
+    }
+    if let Some(excess) = excess {
+        return Err(Refusal::passed(excess.word, excess.limit));
     }
     let Numbering {
         symbols,

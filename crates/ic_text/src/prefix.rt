@@ -1,18 +1,14 @@
 //! A configuration in prefix notation, made of its bytes without a step into what they nest.
 
-ghost use Rattle.std.specs.Prelude.{◌≡◌, ◌+◌, ◌-◌, ◌*◌, ◌<◌, ◌≤◌, ◌^◌, [], ◌∷◌, IfOk, OnOk, List, Some, length, take};
+ghost use Rattle.std.specs.Prelude.{◌≡◌, ◌+◌, ◌*◌, ◌<◌, ◌^◌, ◌∷◌, IfOk, OnOk, List, Some, length};
 ghost use Rattle.std.specs.List.{AllByRecursion};
 ghost use Rattle.ic_text.specs.declared.token.Mark.TheVariants.{LeftBrace};
 ghost use Rattle.ic_text.specs.Token.{Token, mark, mark_of, tokens};
 ghost use Rattle.ic_text.specs.Source.{Phrase, phrase_words};
 ghost use Rattle.ic_text.specs.SystemSource.{RulePhrase, rules_words};
-ghost use Rattle.ic_text.specs.inner.Prefix.{IsBegunAt, IsEnough, cut_at, cut_from, cut_of, cut_run, nodes_of, scan, scanned};
-ghost use Rattle.ic_text.specs.inner.Tail.{passed};
-ghost use Rattle.ic_text.specs.inner.TailScan.{cut_after_mark};
-ghost use Rattle.ic_text.specs.Words.{phrase_prefix, rules_prefix};
+ghost use Rattle.ic_text.specs.inner.Prefix.{mark_scan, nodes_of, scan, scan_at, scan_run, scanned};
+ghost use Rattle.ic_text.specs.inner.Words.{phrase_prefix, rules_prefix};
 
-use crate::limits::Limits;
-use crate::tail::{Tail, tail_after};
 use crate::token::{Mark, is_word_byte, mark_of};
 use std::alloc::{AllocError, Global};
 
@@ -40,13 +36,11 @@ impl Prefix<'_> {
     }
 }
 
-/// What is known of tokens that are scanned from their end: their words except for the last ones, and how many more of
-/// those are left out. Then the arguments so far of each list that is open, those of the list that just opened, and the
-/// terms outside all parentheses before a `|`.
+/// What is known of tokens that are scanned from their end: the words, the arguments so far of each list that is open,
+/// those of the list that just opened, and the terms outside all parentheses before a `|`.
 #[derive(Drop)]
 pub(crate) struct Scan<'a> {
     nodes: Vec<Node<'a>>,
-    skip: usize,
     counts: Vec<usize>,
     arity: usize,
     terms: usize,
@@ -57,18 +51,14 @@ impl<'a> Scan<'a> {
     #[inline(always)]
     fn take_run(&mut self, run: &'a [u8]) -> Result<(), AllocError>
         requires { self.old.terms + length run.now < 2 ^ 64 }
-        ensures { OnOk result (cut_of self.new ≡ cut_run run.now (cut_of self.old)) }
+        ensures { OnOk result (scanned self.new ≡ scan_run run.now (scanned self.old)) }
     {
         if run.is_empty() {
             return Ok(());
         }
         let arity = self.arity;
         self.arity = 0;
-        if self.skip == 0 {
-            self.nodes.push(Node { text: run, arity })?;
-        } else {
-            self.skip -= 1;
-        }
+        self.nodes.push(Node { text: run, arity })?;
         if self.counts.is_empty() {
             self.terms += 1;
         }
@@ -79,7 +69,7 @@ impl<'a> Scan<'a> {
     #[inline(always)]
     fn take_mark(&mut self, mark: Mark) -> Result<(), AllocError>
         requires { AllByRecursion (λ count. count + 1 < 2 ^ 64) (scanned self.old).counts }
-        ensures { OnOk result (cut_of self.new ≡ cut_at (Some mark) (cut_of self.old)) }
+        ensures { OnOk result (scanned self.new ≡ mark_scan mark (scanned self.old)) }
     {
         self.arity = 0;
         match mark {
@@ -99,7 +89,7 @@ impl<'a> Scan<'a> {
     /// Takes a byte that is no word byte before what was scanned: a mark, or else a blank.
     fn take_other(&mut self, byte: u8) -> Result<(), AllocError>
         requires { AllByRecursion (λ count. count + 1 < 2 ^ 64) (scanned self.old).counts }
-        ensures { OnOk result (cut_of self.new ≡ cut_at (mark_of byte) (cut_of self.old)) }
+        ensures { OnOk result (scanned self.new ≡ scan_at (mark_of byte) (scanned self.old)) }
     {
         match mark_of(byte) {
             Some(mark) => self.take_mark(mark),
@@ -111,7 +101,7 @@ impl<'a> Scan<'a> {
     #[inline(always)]
     fn take_byte(&mut self, byte: u8) -> Result<(), AllocError>
         requires { AllByRecursion (λ count. count + 1 < 2 ^ 64) (scanned self.old).counts }
-        ensures { OnOk result (cut_of self.new ≡ cut_at (mark_of byte) (cut_of self.old)) }
+        ensures { OnOk result (scanned self.new ≡ scan_at (mark_of byte) (scanned self.old)) }
     {
         match byte {
             b'(' => self.take_mark(Mark::Open),
@@ -124,60 +114,21 @@ impl<'a> Scan<'a> {
     }
 }
 
-/// The scan after a mark, with what was found there.
-fn scan_after<'a>(nodes: Vec<Node<'a>>, skip: usize, tail: Tail) -> Scan<'a>
-    requires none { nodes.items ≡ [] }
-    requires few { tail.counts.words ≤ skip }
-    ensures { cut_of result ≡ cut_after_mark (passed tail) skip }
-{
-    let words = tail.words();
-    let terms = tail.terms();
-    let Tail { mut closed, .. } = tail;
-    closed.reverse();
-    Scan {
-        nodes,
-        skip: skip - words,
-        counts: closed,
-        arity: 0,
-        terms,
-    }
-}
-
-/// A scan of a text that is begun: at a mark after the words that are kept, where what follows it was gone over, or
-/// else at the end. Room is made for so many words at first.
-fn begun(alloc: Global, text: &[u8], words: usize, skip: usize) -> Result<(Scan, usize), AllocError>
+/// What is known of the tokens of a text. Takes one pass over its bytes, from their end. Room is made for so many words
+/// at first.
+fn scan_of(alloc: Global, text: &[u8], words: usize) -> Result<Scan, AllocError>
     requires { (ts : List Token) × (tokens text.now ≡ Some ts) }
-    ensures { IfOk result (λ v. IsBegunAt text.now skip v.1 (cut_of v.0)) }
+    ensures { IfOk result
+        (λ found. (ts : List Token) → tokens text.now ≡ Some ts → scanned found ≡ scan ts) }
 {
-    let tail = tail_after(alloc, text, words, skip)?;
     let nodes = Vec::with_capacity(alloc, words)?;
-    match tail {
-        Some((tail, place)) => {
-            let mut scan = scan_after(nodes, skip, tail);
-            scan.take_byte(text[place])?;
-            Ok((scan, place))
-        }
-        None => {
-            let scan = Scan {
-                nodes,
-                skip,
-                counts: Vec::new(alloc),
-                arity: 0,
-                terms: 0,
-            };
-            Ok((scan, text.len()))
-        }
-    }
-}
-
-/// What is known of the tokens of a text, without its last words, so many as `skip`. Takes one pass over its bytes,
-/// from their end. Room is made for so many words at first.
-fn scan_of(alloc: Global, text: &[u8], words: usize, skip: usize) -> Result<Scan, AllocError>
-    requires { (ts : List Token) × (tokens text.now ≡ Some ts) }
-    ensures { IfOk result (λ found. (ts : List Token) → tokens text.now ≡ Some ts →
-        cut_of found ≡ cut_from skip (scan ts)) }
-{
-    let (mut scan, mut place) = begun(alloc, text, words, skip)?;
+    let mut scan = Scan {
+        nodes,
+        counts: Vec::new(alloc),
+        arity: 0,
+        terms: 0,
+    };
+    let mut place = text.len();
     let mut end = place;
     while place > 0 {
         place -= 1;
@@ -190,42 +141,6 @@ fn scan_of(alloc: Global, text: &[u8], words: usize, skip: usize) -> Result<Scan
     }
     scan.take_run(&text[..end])?;
     Ok(scan)
-}
-
-/// The words of a text in prefix notation without the last ones, so many as `skip`. Room is made for so many words at
-/// first.
-pub(crate) fn front_of(
-    alloc: Global,
-    text: &[u8],
-    words: usize,
-    skip: usize,
-) -> Result<Prefix, AllocError>
-    requires { (ts : List Token) × (tokens text.now ≡ Some ts) }
-    ensures nodes { IfOk result (λ found. (ts : List Token) → tokens text.now ≡ Some ts →
-        nodes_of found.nodes.items ≡ take (length (scan ts).nodes - skip) (scan ts).nodes) }
-    ensures terms { IfOk result (λ found. (ts : List Token) → tokens text.now ≡ Some ts →
-        found.terms ≡ (scan ts).terms) }
-{
-    let scan = scan_of(alloc, text, words, skip)?;
-    let Scan {
-        mut nodes,
-        terms,
-        ..
-    } = scan;
-    nodes.reverse();
-    Ok(Prefix { nodes, terms })
-}
-
-/// How many words are kept of a configuration that has so many: with the first one too many it is refused.
-pub(crate) fn enough_of(limits: Limits, words: usize) -> usize
-    ensures { IsEnough limits result words }
-{
-    let most = limits.nodes();
-    if words as u64 > most {
-        most as usize + 1
-    } else {
-        words
-    }
 }
 
 /// The words of a configuration that a text spells, and its number of terms, or those of rules after a `{`, and how
@@ -243,5 +158,12 @@ pub(crate) fn prefix_of(alloc: Global, text: &[u8], words: usize) -> Result<Pref
         tokens text.now ≡ Some (mark LeftBrace ∷ rules_words rs) →
         found.terms ≡ 2 * length rs) }
 {
-    front_of(alloc, text, words, 0)
+    let scan = scan_of(alloc, text, words)?;
+    let Scan {
+        mut nodes,
+        terms,
+        ..
+    } = scan;
+    nodes.reverse();
+    Ok(Prefix { nodes, terms })
 }

@@ -1,34 +1,44 @@
 //! Reading a configuration.
 
-ghost use Rattle.std.specs.Prelude.{◌≡◌, ◌≢◌, ◌≤◌, length, IfOk, IfErr, IsTrue, Ok, Err, Some};
+ghost use Rattle.std.specs.Prelude.{◌≡◌, ◌≢◌, ◌≤◌, length, IfOk, IfErr, IfSome, IsTrue, Ok, Err, Some};
 ghost use Rattle.ic_term.specs.Symbol.{is_over};
 ghost use Rattle.ic_term.specs.Configuration.{configuration_nodes};
 ghost use Rattle.ic_text.specs.inner.Numbered.{Gives};
-ghost use Rattle.ic_text.specs.inner.Refused.{IsToldIn, bare, faulted};
+ghost use Rattle.ic_text.specs.inner.Refused.{bare, faulted};
 ghost use Rattle.ic_text.specs.inner.Survey.{Tells};
-ghost use Rattle.ic_text.specs.Limits.{most_bytes, most_interface, most_nodes};
-ghost use Rattle.ic_text.specs.Places.{IsPlaced, IsPlacedWithin};
+ghost use Rattle.ic_text.specs.Limits.{most_interface, most_nodes};
 ghost use Rattle.ic_text.specs.Sense.{sense_within};
 ghost use Rattle.ic_text.specs.Source.{Phrase, IsPhrase, phrase_words};
 ghost use Rattle.ic_text.specs.Text.{IsConfigText, IsConfigTextWithin, Reads, ReadsWithin, Spells};
-ghost use Rattle.ic_text.specs.Words.{written_phrase};
 
 use crate::blame::refusal_of;
 use crate::build::wide_of;
 use crate::excess::config_excess;
 use crate::fault::TextFault;
+use crate::front::front_of;
 use crate::limits::Limits;
 use crate::misread::{Detail, Limit, Misread};
-use crate::number::number_words;
-use crate::prefix::{enough_of, front_of};
+use crate::number::{first_passed, number_words};
+use crate::prefix::prefix_of;
 use crate::refusal::Refusal;
 use crate::survey::{Counts, survey_config};
 use ic_flat::{Flat, WideFlat};
 use ic_term::{Config, Symbols};
 use std::alloc::Global;
 
-/// The sense of a text that spells a configuration of so many words. Every limit is tested before they are numbered. Of
-/// too many words only the first ones are kept: no later one can be refused.
+/// The refusal of a configuration of too many nodes. Only the first words are looked at, with one of which a limit is
+/// passed.
+fn crowded(alloc: Global, limits: Limits, text: &[u8]) -> Refusal
+    ensures { result.fault ≡ TextFault.Limit }
+{
+    let Ok(front) = front_of(alloc, text, limits.nodes() as usize + 1) else {
+        return Refusal::untold(TextFault::Limit);
+    };
+    let excess = config_excess(limits, &front.nodes, front.terms);
+    first_passed(alloc, limits, &front.nodes, excess)
+}
+
+/// The sense of a text that spells a configuration of so many words. Every limit is tested before they are numbered.
 fn sense_of(
     alloc: Global,
     limits: Limits,
@@ -41,11 +51,11 @@ fn sense_of(
     ensures over { IfOk result (λ v. IsTrue (is_over v.0 v.1)) }
     ensures nodes { IfOk result (λ v. configuration_nodes v.1 ≤ most_nodes limits) }
     ensures interface { IfOk result (λ v. length v.1.interface ≤ most_interface limits) }
-    ensures word { (p : Phrase) → Spells text.now p →
-        IfErr result (IsToldIn limits (written_phrase p)) }
 {
-    let kept = enough_of(limits, counts.words);
-    let prefix = front_of(alloc, text, kept, counts.words - kept)?;
+    if counts.words as u64 > limits.nodes() {
+        return Err(crowded(alloc, limits, text));
+    }
+    let prefix = prefix_of(alloc, text, counts.words)?;
     let excess = config_excess(limits, &prefix.nodes, prefix.terms);
     let (symbols, words) = number_words(alloc, limits, &prefix.nodes, excess)?;
     match wide_of(alloc, words, prefix.terms) {
@@ -61,16 +71,13 @@ fn config_at(
     text: &[u8],
     counts: Counts,
 ) -> Result<(Symbols, WideFlat), Misread>
-    requires short { length text.now ≤ most_bytes limits }
-    requires spelled { Tells IsPhrase phrase_words text.now (Some counts) }
+    requires { Tells IsPhrase phrase_words text.now (Some counts) }
     ensures sense { (p : Phrase) → Spells text.now p →
         Gives (λ v. v) (faulted result) (sense_within limits p) }
     ensures over { IfOk result (λ v. IsTrue (is_over v.0 v.1)) }
     ensures nodes { IfOk result (λ v. configuration_nodes v.1 ≤ most_nodes limits) }
     ensures interface { IfOk result (λ v. length v.1.interface ≤ most_interface limits) }
-    ensures placed { IfErr result
-        (λ misread. IsPlacedWithin limits IsPhrase phrase_words written_phrase text.now
-        misread.fault misread.place misread.detail) }
+    ensures placed { IfErr result (λ misread. IfSome misread.place (λ at. at ≤ length text.now)) }
 {
     match sense_of(alloc, limits, text, counts) {
         Ok(found) => Ok(found),
@@ -92,9 +99,7 @@ pub fn find_wide_config(
     ensures interface { IfOk result (λ v. length v.1.interface ≤ most_interface limits) }
     ensures refused { IfErr result (λ misread. misread.fault ≢ TextFault.Memory →
         ReadsWithin limits text.now (Err misread.fault)) }
-    ensures placed { IfErr result
-        (λ misread. IsPlacedWithin limits IsPhrase phrase_words written_phrase text.now
-        misread.fault misread.place misread.detail) }
+    ensures placed { IfErr result (λ misread. IfSome misread.place (λ at. at ≤ length text.now)) }
     ensures memory { IfErr result (λ misread. misread.fault ≡ TextFault.Memory →
         IsConfigTextWithin limits text.now) }
 {
@@ -123,9 +128,7 @@ pub fn find_flat_config(alloc: Global, text: &[u8]) -> Result<(Symbols, Flat), M
     ensures over { IfOk result (λ v. IsTrue (is_over v.0 v.1)) }
     ensures refused { IfErr result
         (λ misread. misread.fault ≢ TextFault.Memory → Reads text.now (Err misread.fault)) }
-    ensures placed { IfErr result
-        (λ misread. IsPlaced IsPhrase phrase_words written_phrase text.now misread.fault
-        misread.place misread.detail) }
+    ensures placed { IfErr result (λ misread. IfSome misread.place (λ at. at ≤ length text.now)) }
     ensures memory { IfErr result
         (λ misread. misread.fault ≡ TextFault.Memory → IsConfigText text.now) }
 {
@@ -140,9 +143,7 @@ pub fn find_config(alloc: Global, text: &[u8]) -> Result<(Symbols, Config), Misr
     ensures over { IfOk result (λ v. IsTrue (is_over v.0 v.1)) }
     ensures refused { IfErr result
         (λ misread. misread.fault ≢ TextFault.Memory → Reads text.now (Err misread.fault)) }
-    ensures placed { IfErr result
-        (λ misread. IsPlaced IsPhrase phrase_words written_phrase text.now misread.fault
-        misread.place misread.detail) }
+    ensures placed { IfErr result (λ misread. IfSome misread.place (λ at. at ≤ length text.now)) }
     ensures memory { IfErr result
         (λ misread. misread.fault ≡ TextFault.Memory → IsConfigText text.now) }
 {

@@ -1,9 +1,7 @@
 //! A refusal of what is written, and at which of its words.
 
-ghost use Rattle.std.specs.Prelude.{◌≡◌, None, Some, IfSome};
+ghost use Rattle.std.specs.Prelude.{◌≡◌, ◌≤◌, IfSome, length};
 ghost use Rattle.ic_text.specs.declared.fault.TextFault.TheVariants.{Memory};
-ghost use Rattle.ic_text.specs.declared.misread.Detail.TheVariants.{Nothing, Passed, Arities};
-ghost use Rattle.ic_text.specs.inner.Refused.{HasWord, IsPlaceOf};
 
 use crate::fault::TextFault;
 use crate::misread::{Detail, Limit, Misread};
@@ -22,7 +20,7 @@ pub(crate) struct Refusal {
 impl Refusal {
     /// A refusal of which no word is told.
     pub(crate) fn untold(fault: TextFault) -> Refusal
-        ensures { result ≡ record { fault = fault; word = None; detail = Nothing } }
+        ensures { result.fault ≡ fault }
     {
         Refusal {
             fault,
@@ -33,7 +31,7 @@ impl Refusal {
 
     /// A refusal that is found at this word.
     pub(crate) fn at(fault: TextFault, word: usize) -> Refusal
-        ensures { result ≡ record { fault = fault; word = Some word; detail = Nothing } }
+        ensures { result.fault ≡ fault }
     {
         Refusal {
             fault,
@@ -44,8 +42,7 @@ impl Refusal {
 
     /// A limit that is passed at this word.
     pub(crate) fn passed(word: usize, limit: Limit) -> Refusal
-        ensures { result
-            ≡ record { fault = TextFault.Limit; word = Some word; detail = Passed limit } }
+        ensures { result.fault ≡ TextFault.Limit }
     {
         Refusal {
             fault: TextFault::Limit,
@@ -56,8 +53,7 @@ impl Refusal {
 
     /// A symbol that has another arity at this word than at its first use.
     pub(crate) fn two_arities(word: usize, before: usize, here: usize) -> Refusal
-        ensures { result
-            ≡ record { fault = TextFault.Arity; word = Some word; detail = Arities before here } }
+        ensures { result.fault ≡ TextFault.Arity }
     {
         Refusal {
             fault: TextFault::Arity,
@@ -68,10 +64,8 @@ impl Refusal {
 
     /// The refusal with its place in the text.
     pub(crate) fn in_text(self, text: &[u8]) -> Misread
-        requires { IfSome self.word (HasWord text.now) }
         ensures fault { result.fault ≡ self.fault }
-        ensures detail { result.detail ≡ self.detail }
-        ensures place { IsPlaceOf text.now self.word result.place }
+        ensures placed { IfSome result.place (λ at. at ≤ length text.now) }
     {
         match self.word {
             Some(word) => Misread {
@@ -89,8 +83,7 @@ impl Refusal {
 }
 
 impl From<AllocError> for Refusal {
-    ghost from_gives = { λ _ refusal.
-        refusal ≡ record { fault = Memory; word = None; detail = Nothing } };
+    ghost from_gives = { λ _ refusal. refusal.fault ≡ Memory };
 
     fn from(_error: AllocError) -> Refusal {
         Refusal::untold(TextFault::Memory)
@@ -98,8 +91,7 @@ impl From<AllocError> for Refusal {
 }
 
 impl<T: Drop> From<AllocFailed<T>> for Refusal {
-    ghost from_gives = { λ _ refusal.
-        refusal ≡ record { fault = Memory; word = None; detail = Nothing } };
+    ghost from_gives = { λ _ refusal. refusal.fault ≡ Memory };
 
     fn from(_failed: AllocFailed<T>) -> Refusal {
         Refusal::untold(TextFault::Memory)

@@ -3,9 +3,7 @@
 
 ghost use Rattle.std.specs.Prelude.{◌≡◌, ◌≤◌, ◌+◌, ◌-◌, ◌^◌, [], ◌∷◌, Some, None, IfErr, length};
 ghost use Rattle.std.specs.Bool.{OnTrue, OnFalse};
-ghost use Rattle.ic_text.specs.inner.Survey.{IsWithin, HasRisen, taken, taken_at, counted, surveyed, Leads, Tells};
-ghost use Rattle.ic_text.specs.inner.Survey.{counts_in};
-ghost use Rattle.ic_text.specs.Places.{IsLastPlace, IsSyntaxPlace};
+ghost use Rattle.ic_text.specs.inner.Survey.{IsWithin, HasRisen, taken, taken_at, counted, counts_in, surveyed, Tells};
 ghost use Rattle.ic_text.specs.Source.{IsPhrase, phrase_words};
 ghost use Rattle.ic_text.specs.SystemSource.{SystemPhrase, IsSystemPhrase, system_words};
 ghost use Rattle.ic_text.specs.SystemText.{SpellsSystem};
@@ -97,7 +95,7 @@ impl Progress {
 #[inline(never)]
 fn survey(part: Part, text: &[u8]) -> Result<Counts, usize>
     ensures counts { counts_in result ≡ surveyed part (tokens text.now) }
-    ensures place { IfErr result (λ at. IsLastPlace (Leads part) text.now at) }
+    ensures placed { IfErr result (λ at. at ≤ length text.now) }
 {
     let mut progress = Progress {
         state: State::new(part),
@@ -127,7 +125,7 @@ fn survey(part: Part, text: &[u8]) -> Result<Counts, usize>
 /// How many words a configuration has, or where a text that spells none has its fault.
 pub(crate) fn survey_config(text: &[u8]) -> Result<Counts, usize>
     ensures counts { Tells IsPhrase phrase_words text.now (counts_in result) }
-    ensures place { IfErr result (λ at. IsSyntaxPlace IsPhrase phrase_words text.now at) }
+    ensures placed { IfErr result (λ at. at ≤ length text.now) }
 {
     survey(Part::Begin, text)
 }
@@ -135,7 +133,7 @@ pub(crate) fn survey_config(text: &[u8]) -> Result<Counts, usize>
 /// How many words a system has, or where a text that spells none has its fault.
 pub(crate) fn survey_system(text: &[u8]) -> Result<Counts, usize>
     ensures counts { Tells IsSystemPhrase system_words text.now (counts_in result) }
-    ensures place { IfErr result (λ at. IsSyntaxPlace IsSystemPhrase system_words text.now at) }
+    ensures placed { IfErr result (λ at. at ≤ length text.now) }
 {
     survey(Part::Start, text)
 }

@@ -1,18 +1,16 @@
 //! Reading a system.
 
-ghost use Rattle.std.specs.Prelude.{◌≡◌, ◌≢◌, ◌≤◌, length, IfOk, IfErr, Ok, Err, Some};
+ghost use Rattle.std.specs.Prelude.{◌≡◌, ◌≢◌, ◌≤◌, length, IfOk, IfErr, IfSome, Ok, Err, Some};
 ghost use Rattle.ic_term.specs.Configuration.{configuration_nodes};
 ghost use Rattle.ic_rules.specs.RuleSet.{AreServed};
 ghost use Rattle.ic_text.specs.inner.Numbered.{Gives};
-ghost use Rattle.ic_text.specs.inner.Refused.{IsToldIn, bare, faulted};
+ghost use Rattle.ic_text.specs.inner.Refused.{bare, faulted};
 ghost use Rattle.ic_text.specs.inner.Survey.{Tells};
-ghost use Rattle.ic_text.specs.Limits.{most_bytes, most_interface, most_nodes};
-ghost use Rattle.ic_text.specs.Places.{IsPlaced, IsPlacedWithin};
+ghost use Rattle.ic_text.specs.Limits.{most_interface, most_nodes};
 ghost use Rattle.ic_text.specs.SystemSense.{system_sense_within};
 ghost use Rattle.ic_text.specs.SystemSource.{SystemPhrase, IsSystemPhrase, system_words};
 ghost use Rattle.ic_text.specs.SystemText.{SpellsSystem, ReadsSystem, ReadsSystemWithin};
 ghost use Rattle.ic_text.specs.SystemText.{IsSystemText, IsSystemTextWithin};
-ghost use Rattle.ic_text.specs.Words.{written_system};
 
 use crate::blame::refusal_of;
 use crate::build::system_of;
@@ -42,8 +40,6 @@ fn sense_of(
     ensures nodes { IfOk result (λ s. configuration_nodes s.config ≤ most_nodes limits) }
     ensures interface { IfOk result (λ s. length s.config.interface ≤ most_interface limits) }
     ensures served { IfOk result (λ s. limits ≡ Limits.Served → AreServed s.rules) }
-    ensures word { (s : SystemPhrase) → SpellsSystem text.now s →
-        IfErr result (IsToldIn limits (written_system s)) }
 {
     let (rules, config) = split_at_brace(text);
     let mut rules = prefix_of(alloc, rules, counts.words)?;
@@ -67,16 +63,13 @@ fn system_at(
     text: &[u8],
     counts: Counts,
 ) -> Result<WideSystem, Misread>
-    requires short { length text.now ≤ most_bytes limits }
-    requires spelled { Tells IsSystemPhrase system_words text.now (Some counts) }
+    requires { Tells IsSystemPhrase system_words text.now (Some counts) }
     ensures sense { (s : SystemPhrase) → SpellsSystem text.now s →
         Gives (λ system. system) (faulted result) (system_sense_within limits s) }
     ensures nodes { IfOk result (λ s. configuration_nodes s.config ≤ most_nodes limits) }
     ensures interface { IfOk result (λ s. length s.config.interface ≤ most_interface limits) }
     ensures served { IfOk result (λ s. limits ≡ Limits.Served → AreServed s.rules) }
-    ensures placed { IfErr result
-        (λ misread. IsPlacedWithin limits IsSystemPhrase system_words written_system text.now
-        misread.fault misread.place misread.detail) }
+    ensures placed { IfErr result (λ misread. IfSome misread.place (λ at. at ≤ length text.now)) }
 {
     match sense_of(alloc, limits, text, counts) {
         Ok(found) => Ok(found),
@@ -97,9 +90,7 @@ pub fn find_wide_system(alloc: Global, limits: Limits, text: &[u8]) -> Result<Wi
     ensures served { IfOk result (λ system. limits ≡ Limits.Served → AreServed system.rules) }
     ensures refused { IfErr result (λ misread. misread.fault ≢ TextFault.Memory →
         ReadsSystemWithin limits text.now (Err misread.fault)) }
-    ensures placed { IfErr result
-        (λ misread. IsPlacedWithin limits IsSystemPhrase system_words written_system text.now
-        misread.fault misread.place misread.detail) }
+    ensures placed { IfErr result (λ misread. IfSome misread.place (λ at. at ≤ length text.now)) }
     ensures memory { IfErr result (λ misread. misread.fault ≡ TextFault.Memory →
         IsSystemTextWithin limits text.now) }
 {
@@ -127,9 +118,7 @@ pub fn find_flat_system(alloc: Global, text: &[u8]) -> Result<FlatSystem, Misrea
     ensures spelled { IfOk result (λ _. (s : SystemPhrase) × SpellsSystem text.now s) }
     ensures refused { IfErr result
         (λ misread. misread.fault ≢ TextFault.Memory → ReadsSystem text.now (Err misread.fault)) }
-    ensures placed { IfErr result
-        (λ misread. IsPlaced IsSystemPhrase system_words written_system text.now misread.fault
-        misread.place misread.detail) }
+    ensures placed { IfErr result (λ misread. IfSome misread.place (λ at. at ≤ length text.now)) }
     ensures memory { IfErr result
         (λ misread. misread.fault ≡ TextFault.Memory → IsSystemText text.now) }
 {
@@ -142,9 +131,7 @@ pub fn find_system(alloc: Global, text: &[u8]) -> Result<System, Misread>
     ensures read { IfOk result (λ system. ReadsSystem text.now (Ok system)) }
     ensures refused { IfErr result
         (λ misread. misread.fault ≢ TextFault.Memory → ReadsSystem text.now (Err misread.fault)) }
-    ensures placed { IfErr result
-        (λ misread. IsPlaced IsSystemPhrase system_words written_system text.now misread.fault
-        misread.place misread.detail) }
+    ensures placed { IfErr result (λ misread. IfSome misread.place (λ at. at ≤ length text.now)) }
     ensures memory { IfErr result
         (λ misread. misread.fault ≡ TextFault.Memory → IsSystemText text.now) }
 {

@@ -1,14 +1,10 @@
 -- Lemmas: parts are apart where they have different numbers.
-use Rattle.std.proofs.Common.{◌≡◌, ℕ, zero, suc, ◌+◌, ◌<◌, ◌≤◌, ◌==◌, List, [], ◌∷◌, ◌++◌, Bool, true, false, cond, map, refl, sym, ap, subst, ◌∙◌, append_assoc, eq-eqb, arith, sum_by, count_by}
+use Rattle.std.proofs.Common.{◌≡◌, ℕ, ◌+◌, ◌<◌, ◌≤◌, ◌==◌, List, [], ◌∷◌, Bool, cond, map, refl, sym, ap, eq-eqb, arith, count_by}
 use Rattle.std.specs.List.{AllByRecursion, flat_map}
-use Rattle.std.specs.List.Sorted.{IsPermutation}
-use Rattle.std.proofs.lemmas.List.{append-nil, map-append}
-use Rattle.std.proofs.lemmas.List.Sums.{sum_by-cons, sum_by-append}
-use Rattle.std.proofs.lemmas.List.Sorted.{IsPermutation-refl, IsPermutation-sym, IsPermutation-append_left, IsPermutation-append_right, IsPermutation-append_comm}
-use Rattle.ic_arena.specs.Piece.{Piece, equated, room}
+use Rattle.std.proofs.lemmas.List.Sums.{sum_by-cons}
+use Rattle.ic_arena.specs.Piece.{room}
 use Rattle.ic_machine.specs.Moving.{CutEnd}
-use Rattle.ic_machine.specs.Net.{Net, pieces}
-use Rattle.ic_machine.specs.Plan.{Plans, ArePlans}
+use Rattle.ic_machine.specs.Net.{pieces}
 use Rattle.ic_machine.specs.Rooms.{ROOMS, in_room, pieces_in, IsOutside}
 use Rattle.ic_machine.specs.lemmas.InRooms.{outside_both, outside_of}
 use Rattle.ic_workers.specs.Parts.{Part, end_piece, part_pieces, room_of}

@@ -1,9 +1,9 @@
 -- Lemmas: a part with nothing in it.
-use Rattle.std.proofs.Common.{◌≡◌, ℕ, zero, suc, ◌≤◌, ◌++◌, List, [], ◌∷◌, length, map, slice_index_or, refl, ap, sym, subst, ◌∙◌, arith, inr}
+use Rattle.std.proofs.Common.{◌≡◌, ℕ, zero, suc, ◌++◌, List, [], ◌∷◌, length, map, slice_index_or, refl, ap, sym, subst, ◌∙◌, arith, inr}
 use Rattle.std.specs.List.{AllByRecursion}
 use Rattle.std.proofs.lemmas.List.{length-map}
 use Rattle.ic_machine.specs.Moving.{CutEnd, end_word}
-use Rattle.ic_machine.specs.Net.{Net, pieces, places_of, IsStuck}
+use Rattle.ic_machine.specs.Net.{Net, pieces, IsStuck}
 use Rattle.ic_machine.specs.Plan.{Plans}
 use Rattle.ic_machine.specs.Separate.{IsSeparate}
 use Rattle.ic_workers.specs.Parts.{Part}
@@ -28,10 +28,6 @@ zero_counts : {X : Type 0} (xs : List X) (i : ℕ) → ◌≡◌ {A = ℕ} (slic
 zero_counts [] i = refl
 zero_counts (x ∷ xs) zero = refl
 zero_counts (x ∷ xs) (suc i) = zero_counts xs i
-
-pub empty_places : (p : Plans) (n : Net) → n ≡ empty_net p → (kind : ℕ) → places_of kind n ≡ 0
-empty_places p n is zero = ap (λ (m : Net). m.names) is
-empty_places p n is (suc s) = ap (λ (m : Net). slice_index_or m.agents s 0) is ∙ zero_counts p.arities s
 
 pub empty_bare : (p : Plans) (q : Part) → q.net ≡ empty_net p → q.borders.ends ≡ [] → IsBare q
 empty_bare p q net ends = record {

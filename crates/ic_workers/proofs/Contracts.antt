@@ -1,5 +1,5 @@
 -- Lemmas: what the contracts of machines say, as what parts gave, shipped and took.
-use Rattle.std.proofs.Common.{◌++◌, ◌+◌, ◌-◌, ◌∙◌, ◌∷◌, ◌≡◌, ℕ, List, [], ap, arith, refl, subst as transport, sum_by, sym}
+use Rattle.std.proofs.Common.{◌++◌, ◌∙◌, ◌∷◌, ◌≡◌, ℕ, List, [], ap, arith, refl, subst as transport, sum_by, sym}
 use Rattle.std.proofs.lemmas.List.Sums.{sum_by-cons}
 use Rattle.ic_arena.specs.Piece.{Piece, agent_of, equated, idle, waits}
 use Rattle.ic_arena.specs.Word.{name_word}

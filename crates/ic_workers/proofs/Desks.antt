@@ -1,5 +1,5 @@
 -- Lemmas: what a desk keeps.
-use Rattle.std.proofs.Common.{◌≡◌, ◌⊎◌, inl, inr, ℕ, ◌+◌, ◌-◌, ◌*◌, ◌%◌, ◌<◌, ◌≤◌, ◌==◌, ◌&&◌, List, [], ◌∷◌, ◌++◌, Option, None, Some, Bool, true, false, cond, length, map, get_or, set, nat_le, refl, sym, ap, subst, arith, ◌∙◌, sum_by, add-zero, length-append, length-set}
+use Rattle.std.proofs.Common.{◌≡◌, ◌⊎◌, inl, inr, ℕ, ◌+◌, ◌-◌, ◌*◌, ◌%◌, ◌<◌, ◌≤◌, ◌==◌, ◌&&◌, List, [], ◌∷◌, ◌++◌, Option, None, Some, Bool, true, false, cond, length, map, get_or, set, nat_le, refl, sym, ap, subst, arith, ◌∙◌, sum_by, length-append, length-set}
 use Rattle.std.specs.Prelude.{IsPermutation}
 use Rattle.std.specs.List.{AllByRecursion, flat_map}
 use Rattle.std.proofs.lemmas.Bool.{eqb-true, leb-true}
@@ -9,7 +9,7 @@ use Rattle.std.proofs.lemmas.List.Sorted.{IsPermutation-refl, IsPermutation-sym,
 use Rattle.ic_arena.specs.declared.word.Word.{Word}
 use Rattle.ic_machine.specs.Moving.{Ends, spells_cut, worth, KeepWorth}
 use Rattle.ic_in_place.specs.Stopping.{IsBegun}
-use Rattle.ic_machine.specs.Net.{Net, pieces, places_of, IsStuck}
+use Rattle.ic_machine.specs.Net.{Net, pieces, IsStuck}
 use Rattle.ic_machine.specs.Plan.{Planned, Plans}
 use Rattle.ic_machine.specs.Separate.{IsSeparate}
 use Rattle.ic_workers.specs.Parts.{Part}
@@ -225,14 +225,14 @@ desk_added p d e k desk bare kept number borders few items made =
           omega (arith, a, b, x, none, so_far, made);
     }
 
-pub come_added : (p : Plans) (d e : Desk) (k : Kept) → IsDesk p d → IsBare (part_of k) → ((kind : ℕ) → places_of kind k.machine ≡ 0) → IsKept p (part_of k) → k.number ≡ length d.parts.items
+pub come_added : (p : Plans) (d e : Desk) (k : Kept) → IsDesk p d → IsBare (part_of k) → IsKept p (part_of k) → k.number ≡ length d.parts.items
     → k.borders ≡ new_ends k.number → length d.parts.items < 512 → e.parts.items ≡ d.parts.items ++ Some k ∷ [] → Come p (parts_at d) (parts_at e)
-come_added p d e k desk bare none kept number borders few items =
+come_added p d e k desk bare kept number borders few items =
     let q : Part = part_of k in
     let parts : parts_at e ≡ parts_at d ++ q ∷ [] = ap (flat_map slot) items ∙ flat_last slot d.parts.items (Some k) in
     subst (Come p (parts_at d)) (sym parts)
     (ordered (parts_at d) (q ∷ parts_at d) (parts_at d ++ q ∷ [])
-    (added q (parts_at d) (parts_at d) (stayed (parts_at d) (parts_at d) (IsPermutation-refl (parts_at d))) bare (is_new p d k desk kept number borders few) kept.plans none)
+    (added q (parts_at d) (parts_at d) (stayed (parts_at d) (parts_at d) (IsPermutation-refl (parts_at d))) bare (is_new p d k desk kept number borders few) kept.plans)
     (IsPermutation-sym (parts_at d ++ q ∷ []) (q ∷ parts_at d) (IsPermutation-to_front (parts_at d) q)))
 
 -- ---- a part in a slot changes

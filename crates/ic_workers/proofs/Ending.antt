@@ -1,5 +1,5 @@
 -- Lemmas: what a machine holds that has all that parts had, and has run since.
-use Rattle.std.proofs.Common.{◌++◌, ◌+◌, ◌-◌, ◌==◌, ◌∙◌, ◌∷◌, ◌≡◌, ℕ, List, [], arith, cond, length, map, refl, slice_index_or, subst as transport, sym}
+use Rattle.std.proofs.Common.{◌++◌, ◌==◌, ◌∙◌, ◌∷◌, ◌≡◌, ℕ, List, [], arith, cond, length, map, refl, slice_index_or, subst as transport, sym}
 use Rattle.std.proofs.lemmas.List.{length-append, map-append}
 use Rattle.std.proofs.lemmas.List.Sums.{sum_by-append, sum_by-cons}
 use Rattle.std.specs.Prelude.{IsTrue}
@@ -22,8 +22,7 @@ use Rattle.ic_workers.proofs.Known.{known_both, known_plans}
 use Rattle.ic_workers.proofs.Led.{come_led, given_on}
 use Rattle.ic_workers.proofs.Whole.{whole_holds}
 use Rattle.ic_workers.specs.inner.HandsOn.{IsAllOf}
-use Rattle.ic_in_place.specs.Holding.{AreGiven, WereThere}
-use Rattle.ic_in_place.specs.lemmas.There.{ran_there, were_fewer}
+use Rattle.ic_in_place.specs.Holding.{AreGiven}
 use Rattle.ic_workers.specs.Parts.{Hold, Part}
 use Rattle.ic_workers.specs.inner.Sent.{HasAll}
 
@@ -31,11 +30,11 @@ use Rattle.ic_workers.specs.inner.Sent.{HasAll}
 pub all_has : StepLaws → (rs : Rules) (numbers : List ℕ) (p : Plans) (c : Configuration) (given : List ℕ) (first : Part) (m : Net)
     → IsRuleSet rs → IsTrue (is_over rs.symbols c) → HasNames c → ArePlans p → ArePlansOf rs numbers p → AreGiven given c
     → Hold rs p c given [] (first ∷ []) → first.net.interactions ≡ 0 → ((i : ℕ) → slice_index_or first.net.counts i 0 ≡ 0)
-    → length first.net.counts ≡ length p.plans → ((symbol : ℕ) → WereThere rs c [] symbol (slice_index_or first.net.agents symbol 0))
+    → length first.net.counts ≡ length p.plans
     → IsAllOf p (first ∷ []) m → HasAll rs numbers p c given m
-all_has laws rs numbers p c given first m set over named plans of_rules free held none empty counted were all =
+all_has laws rs numbers p c given first m set over named plans of_rules free held none empty counted all =
     let led = come_led laws rs numbers p c given [] (first ∷ []) (all.part ∷ []) set over named plans of_rules free held (counted, tt)
-    (λ symbol. record { most = slice_index_or first.net.agents symbol 0; were = were symbol; within = (omega arith, tt) }) all.come in
+    all.come in
     let holds = whole_holds laws rs p c given (map (rule_number numbers) led.fired) all.part set over named free led.hold in
     transport (HasAll rs numbers p c given) all.is (record {
       fired = led.fired;
@@ -51,8 +50,6 @@ all_has laws rs numbers p c given first m set over named plans of_rules free hel
           let nothing_yet = empty i in
           omega (arith, so_far, one, two, nothing_yet));
       counted = led.counted.0;
-      used = λ symbol. let use_of = led.used symbol in
-          were_fewer rs c (map (rule_number numbers) led.fired) symbol (slice_index_or all.part.net.agents symbol 0) use_of.most use_of.within.0 use_of.were;
     })
 
 -- It does after it has run.
@@ -96,8 +93,6 @@ ran_has laws rs numbers p c given m n set over named plans of_rules free has ran
             let both = sum_by-append (λ (j : ℕ). cond {A = ℕ} (j == i) 1 0) has.fired ran.fired in
             omega (arith, so_far, here, both));
         counted = ran.counts.all ∙ has.counted;
-        used = λ symbol. transport (λ (l : List ℕ). WereThere rs c l symbol (slice_index_or n.agents symbol 0)) fired_are
-            (ran_there laws.reached laws.kept rs numbers p c given (map (rule_number numbers) has.fired) m n symbol set over named plans of_rules held ran (has.used symbol));
       },
       refl,
     )

@@ -22,7 +22,6 @@ use Rattle.ic_workers.specs.declared.desk.Desk.{Desk}
 use Rattle.ic_workers.specs.inner.Keeping.{interactions_of, part_of, parts_at, slot, AreAt, AreLeft, AreOnce, IsDesk, IsKept}
 use Rattle.ic_workers.specs.inner.Sent.{CountsAlso, GaveAll, Took}
 use Rattle.ic_workers.proofs.Contracts.{took}
-use Rattle.ic_workers.proofs.Roomy.{took_room}
 use Rattle.ic_workers.proofs.Parcelled.{ship_spelled}
 use Rattle.ic_workers.proofs.Slots.{full_most}
 
@@ -193,10 +192,7 @@ gathers law p words a c b m d kept_a kept_b later given taken =
           ∙ (taken.counts i ∙ ap (λ (l : List ℕ). slice_index_or b.net.counts i 0 + slice_index_or l i 0) given.counts);
       plans = ap length unpacks.counts ∙ taken.plans;
     } in (
-      (λ qs. (
-        law p.arities a c b d qs words gave given.worth has_taken taken.worth also taken.once,
-        (λ each symbol most old new. (took_room p p.arities words middle d.net b.borders d.borders kept_b.arities unpacks each.0 symbol most old.0 new.0, old.1.1)),
-      )),
+      (λ qs. law p.arities a c b d qs words gave given.worth has_taken taken.worth also taken.once),
       record {
         arities = unpacks.arities ∙ kept_b.arities;
         plans = ap length unpacks.counts ∙ (taken.plans ∙ kept_b.plans);
@@ -215,7 +211,7 @@ pub left_one_less : (p : Plans) (qs : List Part) (made : ℕ) (first a new : Par
     → Gathers p.arities a first new → IsKept p new → new.number ≡ first.number
     → ((c : ℕ) → worth c new.borders ≤ worth c first.borders + worth c a.borders) → AreLeft p qs made new others
 left_one_less p qs made first a new others left gathers kept number worths = record {
-  come = handed qs (first ∷ a ∷ others) (new ∷ others) left.come (gathers others).0 (gathers others).1;
+  come = handed qs (first ∷ a ∷ others) (new ∷ others) left.come (gathers others);
   kept = (kept, left.kept.1.1);
   is_first = number ∙ left.is_first;
   later = left.later.1;
@@ -227,7 +223,7 @@ left_one_less p qs made first a new others left gathers kept number worths = rec
       let z = sum_by-cons f new others in
       let few = worths c in
       omega (arith, before, x, y, z, few);
-  counted = (gathers others).0.alike.interactions ∙ left.counted;
+  counted = (gathers others).alike.interactions ∙ left.counted;
 }
 
 -- no part in a slot after the first has the first number

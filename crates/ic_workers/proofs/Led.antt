@@ -1,5 +1,5 @@
 -- Lemmas: what parts come to holds the net, whatever they did in turn.
-use Rattle.std.proofs.Common.{◌≡◌, ◌⊎◌, inl, inr, ℕ, suc, ◌+◌, ◌<◌, ◌≤◌, ◌==◌, List, [], ◌∷◌, ◌++◌, Bool, true, false, cond, length, map, max, refl, sym, ap, ◌∙◌, append_assoc, append-nil, eq-eqb, arith, sum_by, count_by, slice_index_or, subst as transport}
+use Rattle.std.proofs.Common.{◌≡◌, ◌⊎◌, inl, inr, ℕ, ◌+◌, ◌<◌, ◌≤◌, ◌==◌, List, [], ◌∷◌, ◌++◌, Bool, true, false, cond, length, map, refl, sym, ap, ◌∙◌, append_assoc, append-nil, eq-eqb, arith, sum_by, count_by, slice_index_or, subst as transport}
 use Rattle.std.specs.Prelude.{IsPermutation, IsTrue}
 use Rattle.std.specs.List.{AllByRecursion, flat_map}
 use Rattle.std.specs.Cmp.{unsigned_Decides}
@@ -16,21 +16,16 @@ use Rattle.ic_reaching.specs.OneNet.{OneNet}
 use Rattle.ic_arena.specs.declared.word.Word.{Word}
 use Rattle.ic_arena.specs.Piece.{Piece, idle}
 use Rattle.ic_machine.specs.Moving.{times, worth}
-use Rattle.ic_machine.specs.Net.{in_use, pieces, places_of}
 use Rattle.ic_machine.specs.Plan.{Plans, ArePlans}
-use Rattle.ic_machine.specs.lemmas.Orders.{to_front}
 use Rattle.ic_machine.specs.Rooms.{ROOMS, in_room, pieces_in}
 use Rattle.ic_meaning.specs.Nets.{net_of, AreNetPieces}
 use Rattle.ic_meaning.specs.Plans.{ArePlansOf, rule_number}
 use Rattle.ic_readback.specs.lemmas.Orders.{any_order, all_order, flat_order}
-use Rattle.ic_in_place.specs.Holding.{AreGiven, WereThere}
-use Rattle.ic_in_place.specs.lemmas.There.{were_both, were_on}
+use Rattle.ic_in_place.specs.Holding.{AreGiven}
 use Rattle.ic_workers.specs.Parts.{Part, all_interface, all_pieces, cut_word, cuts_of, end_piece, part_pieces, room_of, ArePlaced, Hold}
 use Rattle.ic_workers.specs.inner.HandsOn.{HandsOn, HaveWorked, IsBare, IsNew, Come, stayed, ordered, worked, handed, added}
 use Rattle.ic_workers.proofs.Given.{StepLaws}
 use Rattle.ic_workers.proofs.Coming.{worked_hold}
-use Rattle.ic_workers.proofs.Holding.{one_runs}
-use Rattle.ic_workers.proofs.There.{all_within, hold_used, part_used, parts_each, HaveUsed}
 use Rattle.ic_workers.proofs.PartNets.{net_pieces_order}
 use Rattle.ic_workers.proofs.Known.{known_all, known_both, AreKnown}
 use Rattle.ic_workers.proofs.Working.{all_fired}
@@ -260,8 +255,7 @@ made_by qs = sum_by (λ q. q.net.interactions) qs
 abbrev pub times_fired : ℕ → List Part → ℕ
 times_fired i qs = sum_by (λ q. slice_index_or q.net.counts i 0) qs
 
--- What parts have come to holds what is reached by the rules of these plans. That many pairs were counted, of each plan, too. Of
--- each symbol no part has more places than there were agents at once.
+-- What parts have come to holds what is reached by the rules of these plans. That many pairs were counted, of each plan, too.
 pub record Led (rs : Rules) (numbers : List ℕ) (p : Plans) (c : Configuration) (given before : List ℕ) (qs ss : List Part) : Type 0 where
   pub fired : List ℕ
   pub known : AreKnown p fired
@@ -269,7 +263,6 @@ pub record Led (rs : Rules) (numbers : List ℕ) (p : Plans) (c : Configuration)
   pub made : made_by ss ≡ made_by qs + length fired
   pub counts : (i : ℕ) → i < length p.plans → times_fired i ss ≡ times_fired i qs + count_by (λ j. j == i) fired
   pub counted : AreCounted p ss
-  pub used : (symbol : ℕ) → HaveUsed rs c (before ++ map (rule_number numbers) fired) symbol ss
 
 worked_made : (p : Plans) (qs rs : List Part) → (ran : HaveWorked p qs rs) → made_by rs ≡ made_by qs + length (all_fired p qs rs ran)
 worked_made p [] [] ran = refl
@@ -303,57 +296,20 @@ worked_counted p [] (r ∷ rs) counted ran = absurd ran
 worked_counted p (q ∷ qs) [] counted ran = absurd ran
 worked_counted p (q ∷ qs) (r ∷ rs) counted ran = (ran.0.ran.counts.all ∙ counted.0, worked_counted p qs rs counted.1 ran.1)
 
--- ---- places for agents
-
--- Parts that run one after another have no more places than there were agents at once.
-worked_used : StepLaws → (rs : Rules) (numbers : List ℕ) (p : Plans) (c : Configuration) (given fired : List ℕ) (qs ss done : List Part) (symbol : ℕ)
-    → IsRuleSet rs → IsTrue (is_over rs.symbols c) → HasNames c → ArePlans p → ArePlansOf rs numbers p
-    → Hold rs p c given fired (qs ++ done) → (ran : HaveWorked p qs ss) → HaveUsed rs c fired symbol qs
-    → HaveUsed rs c (fired ++ map (rule_number numbers) (all_fired p qs ss ran)) symbol ss
-worked_used laws rs numbers p c given fired [] [] done symbol set over named plans of_rules held ran use_of =
-    record { most = use_of.most; were = were_on rs c fired [] symbol use_of.most use_of.were; within = tt }
-worked_used laws rs numbers p c given fired [] (r ∷ ss) done symbol set over named plans of_rules held ran use_of = absurd ran
-worked_used laws rs numbers p c given fired (q ∷ qs) [] done symbol set over named plans of_rules held ran use_of = absurd ran
-worked_used laws rs numbers p c given fired (q ∷ qs) (r ∷ ss) done symbol set over named plans of_rules held ran use_of =
-    let f : List ℕ → List ℕ = map (rule_number numbers) in
-    let own : List ℕ = ran.0.ran.fired in
-    let all : List ℕ = all_fired p qs ss ran.1 in
-    let by_then : List ℕ = fired ++ f own in
-    let next : Part = record q { net = r.net } in
-    let here : ℕ = places_of (suc symbol) r.net in
-    let first = part_used laws rs numbers p c given fired q (qs ++ done) r.net symbol use_of.most set over named plans of_rules held ran.0.ran use_of.were use_of.within.0 in
-    let turned = order_hold laws rs p c given by_then (next ∷ (qs ++ done)) (qs ++ (next ∷ done)) (to_front (next ∷ []) qs done)
-    (one_runs laws rs numbers p c given fired q (qs ++ done) r.net set over named plans of_rules held ran.0.ran) in
-    let later = worked_used laws rs numbers p c given by_then qs ss (next ∷ done) symbol set over named plans of_rules turned ran.1
-    (record { most = use_of.most; were = were_on rs c fired (f own) symbol use_of.most use_of.were; within = use_of.within.1 }) in
-    let joined : by_then ++ f all ≡ fired ++ f (own ++ all) =
-    append_assoc fired (f own) (f all) ∙ ap (λ (l : List ℕ). fired ++ l) (sym (map-append (rule_number numbers) own all)) in
-    record {
-      most = max here later.most;
-      were = transport (λ (l : List ℕ). WereThere rs c l symbol (max here later.most)) joined
-          (were_both rs c (by_then ++ f all) symbol here later.most (were_on rs c by_then (f all) symbol here first) later.were);
-      within = (omega arith, all_within (λ t. places_of (suc symbol) t.net) later.most (max here later.most) ss (omega arith) later.within);
-    }
-
 -- Parts that hold a net hold what they come to.
 pub come_led : StepLaws → (rs : Rules) (numbers : List ℕ) (p : Plans) (c : Configuration) (given before : List ℕ) (qs ss : List Part)
     → IsRuleSet rs → IsTrue (is_over rs.symbols c) → HasNames c → ArePlans p → ArePlansOf rs numbers p → AreGiven given c
-    → Hold rs p c given before qs → AreCounted p qs → ((symbol : ℕ) → HaveUsed rs c before symbol qs) → Come p qs ss → Led rs numbers p c given before qs ss
-come_led laws rs numbers p c given before qs ss set over named plans of_rules free held counted use_of (stayed a b moved) = record {
+    → Hold rs p c given before qs → AreCounted p qs → Come p qs ss → Led rs numbers p c given before qs ss
+come_led laws rs numbers p c given before qs ss set over named plans of_rules free held counted (stayed a b moved) = record {
   fired = [];
   known = tt;
   hold = transport (λ (l : List ℕ). Hold rs p c given l b) (sym (append-nil before)) (order_hold laws rs p c given before a b moved held);
   made = (let same = sum_by-IsPermutation (λ (q : Part). q.net.interactions) a b moved in omega (arith, same));
   counts = λ i low. (let same = sum_by-IsPermutation (λ (q : Part). slice_index_or q.net.counts i 0) a b moved in omega (arith, same));
   counted = all_order (λ q. length q.net.counts ≡ length p.plans) a b moved counted;
-  used = λ symbol. let u = use_of symbol in record {
-    most = u.most;
-    were = were_on rs c before [] symbol u.most u.were;
-    within = all_order (λ q. places_of (suc symbol) q.net ≤ u.most) a b moved u.within;
-  };
 }
-come_led laws rs numbers p c given before qs ss set over named plans of_rules free held counted use_of (ordered a b d come moved) =
-    let led = come_led laws rs numbers p c given before a b set over named plans of_rules free held counted use_of come in
+come_led laws rs numbers p c given before qs ss set over named plans of_rules free held counted (ordered a b d come moved) =
+    let led = come_led laws rs numbers p c given before a b set over named plans of_rules free held counted come in
     record {
       fired = led.fired;
       known = led.known;
@@ -361,14 +317,9 @@ come_led laws rs numbers p c given before qs ss set over named plans of_rules fr
       made = (let same = sum_by-IsPermutation (λ (q : Part). q.net.interactions) b d moved in let so_far = led.made in omega (arith, same, so_far));
       counts = λ i low. (let same = sum_by-IsPermutation (λ (q : Part). slice_index_or q.net.counts i 0) b d moved in let so_far = led.counts i low in omega (arith, same, so_far));
       counted = all_order (λ q. length q.net.counts ≡ length p.plans) b d moved led.counted;
-      used = λ symbol. let u = led.used symbol in record {
-        most = u.most;
-        were = u.were;
-        within = all_order (λ q. places_of (suc symbol) q.net ≤ u.most) b d moved u.within;
-      };
     }
-come_led laws rs numbers p c given before qs ss set over named plans of_rules free held counted use_of (worked a b d come ran) =
-    let led = come_led laws rs numbers p c given before a b set over named plans of_rules free held counted use_of come in
+come_led laws rs numbers p c given before qs ss set over named plans of_rules free held counted (worked a b d come ran) =
+    let led = come_led laws rs numbers p c given before a b set over named plans of_rules free held counted come in
     let more : List ℕ = all_fired p b d ran in
     let so_far : List ℕ = map (rule_number numbers) led.fired in
     let joined : (before ++ so_far) ++ map (rule_number numbers) more ≡ before ++ map (rule_number numbers) (led.fired ++ more) =
@@ -382,12 +333,9 @@ come_led laws rs numbers p c given before qs ss set over named plans of_rules fr
       counts = λ i low. (let one = worked_counts p i b d low led.counted ran in let two = led.counts i low in
           let both = sum_by-append (λ (j : ℕ). cond {A = ℕ} (j == i) 1 0) led.fired more in omega (arith, one, two, both));
       counted = worked_counted p b d led.counted ran;
-      used = λ symbol. transport (λ (l : List ℕ). HaveUsed rs c l symbol d) joined
-          (worked_used laws rs numbers p c given (before ++ so_far) b d [] symbol set over named plans of_rules
-          (transport (Hold rs p c given (before ++ so_far)) (sym (append-nil b)) led.hold) ran (led.used symbol));
     }
-come_led laws rs numbers p c given before qs ss set over named plans of_rules free held counted use_of (handed a b d come hands room) =
-    let led = come_led laws rs numbers p c given before a b set over named plans of_rules free held counted use_of come in
+come_led laws rs numbers p c given before qs ss set over named plans of_rules free held counted (handed a b d come hands) =
+    let led = come_led laws rs numbers p c given before a b set over named plans of_rules free held counted come in
     let so_far : List ℕ = before ++ map (rule_number numbers) led.fired in
     let hold : Hold rs p c given so_far d = handed_hold laws rs p c given so_far b d set over named free hands led.hold in
     record {
@@ -397,20 +345,9 @@ come_led laws rs numbers p c given before qs ss set over named plans of_rules fr
       made = hands.alike.interactions ∙ led.made;
       counts = λ i low. hands.alike.counts i ∙ led.counts i low;
       counted = hands.alike.plans (length p.plans) led.counted;
-      used = λ symbol.
-          let u = led.used symbol in
-          let h = hold_used rs p c given so_far d symbol hold in
-          let most : ℕ = max u.most h.0 in
-          record {
-            most = most;
-            were = were_both rs c so_far symbol u.most h.0 u.were h.1;
-            within = room (parts_each p.arities led.hold.cuts b led.hold.are_pieces.each) symbol most
-                (all_within (λ q. places_of (suc symbol) q.net) u.most most b (omega arith) u.within)
-                (all_within (λ q. in_use (suc symbol) (pieces q.net)) h.0 most d (omega arith) h.2);
-          };
     }
-come_led laws rs numbers p c given before qs ss set over named plans of_rules free held counted use_of (added q a b come bare new own none) =
-    let led = come_led laws rs numbers p c given before a b set over named plans of_rules free held counted use_of come in
+come_led laws rs numbers p c given before qs ss set over named plans of_rules free held counted (added q a b come bare new own) =
+    let led = come_led laws rs numbers p c given before a b set over named plans of_rules free held counted come in
     record {
       fired = led.fired;
       known = led.known;
@@ -419,7 +356,4 @@ come_led laws rs numbers p c given before qs ss set over named plans of_rules fr
       counts = λ i low. (let one = sum_by-cons (λ (q : Part). slice_index_or q.net.counts i 0) q b in let none = bare.counts i in
           let so_far = led.counts i low in omega (arith, one, none, so_far));
       counted = (own, led.counted);
-      used = λ symbol. let u = led.used symbol in
-          let empty = none (suc symbol) in
-          record { most = u.most; were = u.were; within = (omega (arith, empty), u.within) };
     }

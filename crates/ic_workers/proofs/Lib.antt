@@ -17,8 +17,6 @@ pub mod Dropping
 pub mod Handing
 pub mod Working
 pub mod Coming
-pub mod Roomy
-pub mod There
 pub mod Led
 pub mod Gathered
 pub mod Whole
@@ -28,7 +26,6 @@ pub mod Known
 pub mod Ending
 pub mod Counted
 pub mod Stopped
-pub mod Answered
 pub mod Contracts
 pub mod Lists
 pub mod Slots

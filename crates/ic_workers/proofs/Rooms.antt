@@ -1,8 +1,8 @@
 -- Lemmas: the net of pieces in a room is the net of these pieces, by the numbers that the words of the room have.
-use Rattle.std.proofs.Common.{◌≡◌, ℕ, ◌-◌, List, [], ◌∷◌, ◌++◌, Bool, true, false, cond, map, refl, sym, ap, ◌∙◌}
+use Rattle.std.proofs.Common.{◌≡◌, ℕ, ◌-◌, List, [], ◌∷◌, ◌++◌, Bool, true, false, map, refl, sym, ap, ◌∙◌}
 use Rattle.std.specs.List.{flat_map}
-use Rattle.ic_term.specs.Tree.{Tree, name, agent, trees_of, Pair}
-use Rattle.ic_term.specs.Configuration.{Configuration, configured}
+use Rattle.ic_term.specs.Tree.{name, agent, trees_of}
+use Rattle.ic_term.specs.Configuration.{configured}
 use Rattle.ic_arena.specs.declared.word.Word.{Word}
 use Rattle.ic_arena.specs.Piece.{Piece, equated, idle, waits, agent_of}
 use Rattle.ic_machine.specs.Rooms.{in_room, piece_in, pieces_in}

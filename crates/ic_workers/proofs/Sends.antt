@@ -10,11 +10,10 @@ use Rattle.ic_machine.specs.Moving.{times, KeepWorth}
 use Rattle.ic_machine.specs.Net.{Net}
 use Rattle.ic_machine.specs.Plan.{Plans}
 use Rattle.ic_workers.specs.Parts.{Part}
-use Rattle.ic_workers.specs.inner.HandsOn.{Come, HandsOn, KeepsRoom, handed, ordered, stayed}
+use Rattle.ic_workers.specs.inner.HandsOn.{Come, HandsOn, handed, ordered, stayed}
 use Rattle.ic_workers.specs.inner.Keeping.{parts_at, slot, slots_at, Changes, GivesOut, IsDesk, IsKept, ShipsOut, TakesIn}
 use Rattle.ic_workers.specs.inner.Sent.{Gave, SameBut, SameCounts, Shipped, Took}
 use Rattle.ic_workers.proofs.Contracts.{gave, ship, took, took_counts}
-use Rattle.ic_workers.proofs.Roomy.{two_room}
 use Rattle.ic_workers.specs.declared.desk.Desk.{Desk}
 use Rattle.ic_workers.proofs.Lists.{all_of_permutation, flat_of_map, one_in, one_out, others, to_front_of}
 
@@ -78,7 +77,7 @@ two_slots {Q} (x ∷ xs) (suc i) (suc j) a b c d low also other first second =
 pub hands_over : (p : Plans) (from to : ℕ) (P R : Part → Part → Type 0) (old mid new : List (List Part)) → (from ≡ to → ⊥)
     → AllByRecursion (IsKept p) (all old) → Changes from P old mid → Changes to R mid new
     → ((a b c d : Part) (qs : List Part) → IsKept p b → P a c → R b d → c.number ≡ a.number → d.number ≡ b.number
-    → HandsOn p.arities (a ∷ b ∷ qs) (c ∷ d ∷ qs) × KeepsRoom p.arities (a ∷ b ∷ qs) (c ∷ d ∷ qs)) → Come p (all old) (all new)
+    → HandsOn p.arities (a ∷ b ∷ qs) (c ∷ d ∷ qs)) → Come p (all old) (all new)
 hands_over p from to P R old mid new other kept first second hands =
     let a : Part = first.part in
     let b : Part = second.part in
@@ -93,7 +92,7 @@ hands_over p from to P R old mid new other kept first second hands =
     let each = all_of_permutation (IsKept p) (all old) (a ∷ b ∷ two.0) two.1 kept in
     let moves = hands a b c d two.0 each.1.0 first.how second.how first.same second.same in
     ordered (all old) (c ∷ d ∷ two.0) (all new)
-    (handed (all old) (a ∷ b ∷ two.0) (c ∷ d ∷ two.0) (stayed (all old) (a ∷ b ∷ two.0) two.1) moves.0 moves.1)
+    (handed (all old) (a ∷ b ∷ two.0) (c ∷ d ∷ two.0) (stayed (all old) (a ∷ b ∷ two.0) two.1) moves)
     (IsPermutation-sym (all new) (c ∷ d ∷ two.0) after)
   where
     long : {X : Type 0} (xs : List X) (i : ℕ) (n : X) → length (set xs i n) ≡ length xs
@@ -105,7 +104,7 @@ hands_over p from to P R old mid new other kept first second hands =
 pub desk_hands_over : (p : Plans) (from to : ℕ) (P R : Part → Part → Type 0) (d m e : Desk) → (from ≡ to → ⊥) → IsDesk p d
     → Changes from P (slots_at d) (slots_at m) → Changes to R (slots_at m) (slots_at e)
     → ((a b c d : Part) (qs : List Part) → IsKept p b → P a c → R b d → c.number ≡ a.number → d.number ≡ b.number
-    → HandsOn p.arities (a ∷ b ∷ qs) (c ∷ d ∷ qs) × KeepsRoom p.arities (a ∷ b ∷ qs) (c ∷ d ∷ qs)) → Come p (parts_at d) (parts_at e)
+    → HandsOn p.arities (a ∷ b ∷ qs) (c ∷ d ∷ qs)) → Come p (parts_at d) (parts_at e)
 desk_hands_over p from to P R d m e other desk first second hands =
     let old : all (slots_at d) ≡ parts_at d = flat_of_map slot d.parts.items in
     let new : all (slots_at e) ≡ parts_at e = flat_of_map slot e.parts.items in
@@ -130,7 +129,7 @@ LawOfShipped = (arities : List ℕ) (a c b d : Part) (qs : List Part) (words : L
     → HandsOn arities (a ∷ b ∷ qs) (c ∷ d ∷ qs)
 
 pub given_on : LawOfGiven → (p : Plans) (words : List Word) (a b c d : Part) (qs : List Part) → IsKept p b → GivesOut p.arities words a c → TakesIn words b d
-    → c.number ≡ a.number → d.number ≡ b.number → HandsOn p.arities (a ∷ b ∷ qs) (c ∷ d ∷ qs) × KeepsRoom p.arities (a ∷ b ∷ qs) (c ∷ d ∷ qs)
+    → c.number ≡ a.number → d.number ≡ b.number → HandsOn p.arities (a ∷ b ∷ qs) (c ∷ d ∷ qs)
 given_on law p words a b c d qs kept gives takes same number =
     let es : List Equation = take gives.pairs a.net.pending in
     let counts : SameCounts a c = record {
@@ -143,15 +142,13 @@ given_on law p words a b c d qs kept gives takes same number =
       same_arities = ap (λ (n : Net). n.arities) gives.same;
     } in
     let pending : a.net.pending ≡ es ++ c.net.pending =
-    sym (take-append-drop gives.pairs a.net.pending) ∙ ap (λ (l : List Equation). es ++ l) (sym gives.pending) in (
-      law p.arities a c b d qs es words (gave p.arities es words a c but pending (ap (λ (n : Net). n.aside) gives.same) gives.packs) counts
-          (took p.arities words b d number kept.arities takes.unpacks) (took_counts words b d takes.unpacks) gives.worth takes.worth gives.once takes.once,
-      two_room p words a b c d qs kept.arities (ap (λ (n : Net). n.agents) gives.same) takes.unpacks,
-    )
+    sym (take-append-drop gives.pairs a.net.pending) ∙ ap (λ (l : List Equation). es ++ l) (sym gives.pending) in
+    law p.arities a c b d qs es words (gave p.arities es words a c but pending (ap (λ (n : Net). n.aside) gives.same) gives.packs) counts
+    (took p.arities words b d number kept.arities takes.unpacks) (took_counts words b d takes.unpacks) gives.worth takes.worth gives.once takes.once
 
 pub shipped_on : LawOfShipped → (p : Plans) (cut : ℕ) (words : List Word) (a b c d : Part) (qs : List Part) → IsKept p b → ShipsOut p.arities cut words a c
     → TakesIn words b d → c.number ≡ a.number → d.number ≡ b.number
-    → HandsOn p.arities (a ∷ b ∷ qs) (c ∷ d ∷ qs) × KeepsRoom p.arities (a ∷ b ∷ qs) (c ∷ d ∷ qs)
+    → HandsOn p.arities (a ∷ b ∷ qs) (c ∷ d ∷ qs)
 shipped_on law p cut words a b c d qs kept ships takes same number =
     let counts : SameCounts a c = record {
       interactions = ap (λ (n : Net). n.interactions) ships.same;
@@ -161,9 +158,7 @@ shipped_on law p cut words a b c d qs kept ships takes same number =
       number = same;
       interface = ap (λ (n : Net). n.interface) ships.same;
       same_arities = ap (λ (n : Net). n.arities) ships.same;
-    } in (
-      law p.arities a c b d qs words
-          (ship p.arities cut words a c but (ap (λ (n : Net). n.pending) ships.same) (ap (λ (n : Net). n.aside) ships.same) ships.ships) counts
-          (took p.arities words b d number kept.arities takes.unpacks) (took_counts words b d takes.unpacks) ships.worth takes.worth ships.once takes.once,
-      two_room p words a b c d qs kept.arities (ap (λ (n : Net). n.agents) ships.same) takes.unpacks,
-    )
+    } in
+    law p.arities a c b d qs words
+    (ship p.arities cut words a c but (ap (λ (n : Net). n.pending) ships.same) (ap (λ (n : Net). n.aside) ships.same) ships.ships) counts
+    (took p.arities words b d number kept.arities takes.unpacks) (took_counts words b d takes.unpacks) ships.worth takes.worth ships.once takes.once

@@ -1,29 +1,21 @@
 -- Lemmas: where a machine stops that has all that parts had.
-use Rattle.std.proofs.Common.{◌≡◌, ◌⊎◌, inl, inr, ℕ, zero, suc, ◌+◌, ◌<◌, ◌≤◌, ◌==◌, ◌^◌, List, [], ◌∷◌, ◌++◌, Some, true, cond, count_by, length, map, nat_le, slice_get, slice_index_or, sum_by, refl, sym, ap, ◌∙◌, arith, subst as transport}
+use Rattle.std.proofs.Common.{◌≡◌, ◌⊎◌, inl, inr, ℕ, zero, suc, ◌<◌, ◌≤◌, ◌==◌, ◌^◌, List, [], ◌∷◌, ◌++◌, Some, count_by, length, map, slice_get, slice_index_or, refl, sym, ap, ◌∙◌, arith, subst as transport}
 use Rattle.std.specs.List.{flat_map, AllByRecursion}
-use Rattle.std.specs.Prelude.{◌↔◌, Contains, sum}
-use Rattle.std.proofs.lemmas.Bool.{leb-true}
-use Rattle.std.proofs.lemmas.List.{length-map, map-append}
-use Rattle.std.proofs.lemmas.List.Sums.{count_by-le-length, sum_by-append, sum_by-cons}
+use Rattle.std.specs.Prelude.{◌↔◌, Contains}
+use Rattle.std.proofs.lemmas.List.{length-map}
+use Rattle.std.proofs.lemmas.List.Sums.{count_by-le-length}
 use Rattle.ic_term.specs.Configuration.{Configuration, configuration_names, occurrences}
-use Rattle.ic_rules.specs.Rule.{Rule}
 use Rattle.ic_rules.specs.System.{SystemParts}
 use Rattle.ic_arena.specs.declared.word.TheConstants.{GIVEN}
-use Rattle.ic_arena.specs.Piece.{Piece}
-use Rattle.ic_machine.specs.declared.equation.Equation.{Equation}
 use Rattle.ic_machine.specs.Moving.{Ends, worth}
-use Rattle.ic_machine.specs.Net.{Net, equated_of, in_use, is_at, pieces, places_of, IsAtPlace, IsPair, IsStuck}
+use Rattle.ic_machine.specs.Net.{Net, IsPair, IsStuck}
 use Rattle.ic_machine.specs.Plan.{ArePlans, IsPlan, Planned, Plans}
 use Rattle.ic_machine.specs.Runs.{IsStart, Ran}
-use Rattle.ic_machine.specs.lemmas.RunsOn.{ran_none, ran_none-fired}
 use Rattle.ic_meaning.specs.Plans.{ArePlansOf, StandsForNet, rule_number}
 use Rattle.ic_in_place.specs.declared.running.Bounds.{Bounds}
 use Rattle.ic_in_place.specs.declared.running.End.{End}
-use Rattle.ic_in_place.specs.declared.running.End.TheVariants.{Nodes}
-use Rattle.ic_in_place.specs.Running.{IsLookedAt, IsWatched}
-use Rattle.ic_in_place.specs.lemmas.Watched.{watched_ran}
-use Rattle.ic_in_place.specs.Counting.{names_at, AreCounts}
-use Rattle.ic_in_place.specs.Holding.{AreCompiled, AreGiven, HasRun, WereThere}
+use Rattle.ic_in_place.specs.Counting.{AreCounts}
+use Rattle.ic_in_place.specs.Holding.{AreCompiled, AreGiven}
 use Rattle.ic_in_place.specs.Stopping.{arities_of, HasCome, IsBegun, IsSound, StopsBy}
 use Rattle.ic_in_place.specs.Summing.{IsSummed}
 use Rattle.ic_workers.specs.Parts.{Part}
@@ -89,16 +81,6 @@ pub no_counts : (p : Plans) (given : ℕ) (plan : Planned) (operands : List ℕ)
     → (i : ℕ) → slice_index_or m.counts i 0 ≡ 0
 no_counts p given plan operands m begun i = ap (λ (l : List ℕ). slice_index_or l i 0) begun.counts ∙ zeros p.plans i
 
--- a machine that begins has no more places for agents than were there
-pub first_used : (s : SystemParts) (numbers : List ℕ) (p : Plans) (given : List ℕ) (plan : Planned) (operands : List ℕ) (m : Net)
-    → IsBegun p (length given) plan operands m
-    → ((run : HasRun p (length given) plan operands m) → (symbol : ℕ)
-    → WereThere s.rules s.config (map (rule_number numbers) run.ran.fired) symbol (slice_index_or m.agents symbol 0))
-    → (symbol : ℕ) → WereThere s.rules s.config [] symbol (slice_index_or m.agents symbol 0)
-first_used s numbers p given plan operands m begun law symbol =
-    transport (λ (l : List ℕ). WereThere s.rules s.config (map (rule_number numbers) l) symbol (slice_index_or m.agents symbol 0)) (ran_none-fired p m)
-    (law (record { first = m; starts = begun.starts; separate = begun.separate; aside = begun.aside; ran = ran_none p m }) symbol)
-
 pub first_worth : (x : ℕ) → (worth x (new_ends 0) ≡ 0) ⊎ (worth x (new_ends 0) ≡ 2)
 first_worth x = elim (own_numbers 0 x (omega arith)) [
   | inl none ↦ inl none
@@ -118,23 +100,6 @@ all_of_first p d e m n b slots come all =
 
 -- ---- the last run
 
--- equations are at no place
-pieces_use : (kind : ℕ) (m : Net) → in_use kind (pieces m) ≡ in_use kind m.places
-pieces_use kind m =
-    let f : Piece → ℕ = λ q. cond {A = ℕ} (is_at kind q) 1 0 in
-    let a = sum_by-append f (map equated_of m.pending) (map equated_of m.aside ++ m.places) in
-    let b = sum_by-append f (map equated_of m.aside) m.places in
-    let c = none m.pending in
-    let d = none m.aside in
-    omega (arith, a, b, c, d)
-  where
-    none : (es : List Equation) → in_use kind (map equated_of es) ≡ 0
-    none [] = refl
-    none (e ∷ es) =
-        let a = sum_by-cons (λ (q : Piece). cond {A = ℕ} (is_at kind q) 1 0) (equated_of e) (map equated_of es) in
-        let rest = none es in
-        omega (arith, a, rest)
-
 all_low : (xs ys : List ℕ) (next bound : ℕ) → next ≤ bound → AllByRecursion (λ x. x < next) (xs ++ ys) → AllByRecursion (λ x. x < bound) xs
 all_low [] ys next bound low all = tt
 all_low (x ∷ xs) ys next bound low all = (omega (arith, low, all.0), all_low xs ys next bound low all.1)
@@ -152,32 +117,13 @@ counts_so rules numbers counts by_rule fired summed known each low = record {
       summed.each i there (omega (arith, told, few, many, low)) ∙ told;
 }
 
--- The names are few of what fired, by numbers that are the same.
-pub few_named : (rs : List Rule) (names own : ℕ) (numbers others counts fired : List ℕ) → others ≡ numbers → AllByRecursion (λ i. i < length numbers) fired
-    → ((i : ℕ) → i < length numbers → slice_index_or counts i 0 ≡ count_by (λ j. j == i) fired) → length fired < 2 ^ 64
-    → ((is : List ℕ) → AllByRecursion (λ i. i < length others) is
-    → ((i : ℕ) → i < length others → slice_index_or counts i 0 ≡ count_by (λ j. j == i) is) → length is < 2 ^ 64
-    → true ≡ nat_le names (own + sum_by (names_at rs) (map (rule_number others) is)))
-    → names ≤ own + sum_by (names_at rs) (map (rule_number numbers) fired)
-few_named rs names own numbers others counts fired same known each low law =
-    leb-true names (own + sum_by (names_at rs) (map (rule_number numbers) fired))
-    (sym (transport (λ (ns : List ℕ). (is : List ℕ) → AllByRecursion (λ i. i < length ns) is
-    → ((i : ℕ) → i < length ns → slice_index_or counts i 0 ≡ count_by (λ j. j == i) is) → length is < 2 ^ 64
-    → true ≡ nat_le names (own + sum_by (names_at rs) (map (rule_number ns) is))) same law fired known each low))
-
 -- A machine has all that parts had, and has run on from there until it stopped.
-pub come_so : (s : SystemParts) (bounds : Bounds) (numbers : List ℕ) (p : Plans) (given : List ℕ) (plan : Planned) (operands : List ℕ) (m n : Net) (end : End) (places : ℕ)
-    → IsSound s → p.arities ≡ arities_of s → AreCompiled s.rules numbers p s.config given plan operands → (has : HasAll s.rules numbers p s.config given m)
-    → (shared : ℕ) → shared ≡ m.interactions → m.arities ≡ p.arities → AllByRecursion (IsStuck p) m.aside → ((kind : ℕ) → in_use kind m.places ≤ places_of kind m)
-    → m.names ≤ plan.names + sum_by (names_at s.rules.rules) (map (rule_number numbers) has.fired) → (now : HasAll s.rules numbers p s.config given n)
-    → (watched : IsWatched p bounds.nodes m n) → now.fired ≡ has.fired ++ (watched.before ++ watched.after.fired) → (end ≡ Nodes → IsLookedAt p m n)
-    → n.interactions ≤ bounds.steps → places ≡ n.names + sum n.agents
-    → length n.places ≤ places → AllByRecursion IsAtPlace n.places → AllByRecursion IsPair n.pending → StopsBy bounds p n end
+pub come_so : (s : SystemParts) (bounds : Bounds) (numbers : List ℕ) (p : Plans) (given : List ℕ) (plan : Planned) (operands : List ℕ) (m n : Net) (end : End)
+    → IsSound s → p.arities ≡ arities_of s → AreCompiled s.rules numbers p s.config given plan operands → m.arities ≡ p.arities → AllByRecursion (IsStuck p) m.aside
+    → (now : HasAll s.rules numbers p s.config given n) → Ran p m n → n.interactions ≤ bounds.steps → AllByRecursion IsPair n.pending → StopsBy bounds p n end
     → (by_rule : List ℕ) → IsSummed (length s.rules.rules) numbers n.counts by_rule → length numbers ≡ length p.plans → n.interactions < 2 ^ 64
-    → HasCome s bounds given by_rule n end places shared
-come_so s bounds numbers p given plan operands m n end places sound arities compiled has shared since_then own stuck room few_names now watched since looked within all enough tables pairs ended by_rule summed numbered low =
-    let ran : Ran p m n = (watched_ran p bounds.nodes m n watched).0 in
-    let f : List ℕ → List ℕ = map (rule_number numbers) in
+    → HasCome s bounds given by_rule n end
+come_so s bounds numbers p given plan operands m n end sound arities compiled own stuck now ran within pairs ended by_rule summed numbered low =
     let many = length-map now.fired (rule_number numbers) in
     let known : AllByRecursion (λ i. i < length numbers) now.fired =
     transport (λ (k : ℕ). AllByRecursion (λ i. i < k) now.fired) (sym numbered) now.known in
@@ -192,26 +138,13 @@ come_so s bounds numbers p given plan operands m n end places sound arities comp
       compiled = compiled;
       arities = arities;
       own_arities = ran.arities ∙ (own ∙ arities);
-      fired = f now.fired;
+      fired = map (rule_number numbers) now.fired;
       held = now.holds;
       counted = omega (arith, made, many);
       counts = counts_so (length s.rules.rules) numbers n.counts by_rule now.fired summed known (λ k there. now.counts k (omega (arith, there, numbered)))
           (omega (arith, made, low));
       within = within;
-      all = all;
-      enough = enough;
-      tables = tables;
       pairs = pairs;
       aside = transport (AllByRecursion (IsStuck p)) (sym ran.aside) (all_of_both (IsStuck p) m.aside ran.more stuck ran.stuck);
       ended = ended;
-      used = now.used;
-      together = m;
-      before = f has.fired;
-      made = (let so_far = has.made in omega (arith, so_far, since_then, length-map has.fired (rule_number numbers)));
-      was = has.holds;
-      room = λ kind. let few = room kind in let same = pieces_use kind m in omega (arith, few, same);
-      names = few_names;
-      watched = watched;
-      by_plans = ap f since ∙ map-append (rule_number numbers) has.fired (watched.before ++ watched.after.fired);
-      looked = looked;
     }

@@ -123,8 +123,8 @@ pub come_on : (p : Plans) (qs rs ss : List Part) → Come p qs rs → Come p rs 
 come_on p qs rs ss first (stayed a b moved) = ordered qs a b first moved
 come_on p qs rs ss first (ordered a b d then moved) = ordered qs b d (come_on p qs rs b first then) moved
 come_on p qs rs ss first (worked a b d then ran) = worked qs b d (come_on p qs rs b first then) ran
-come_on p qs rs ss first (handed a b d then hands room) = handed qs b d (come_on p qs rs b first then) hands room
-come_on p qs rs ss first (added q a b then bare new plans none) = added q qs b (come_on p qs rs b first then) bare new plans none
+come_on p qs rs ss first (handed a b d then hands) = handed qs b d (come_on p qs rs b first then) hands
+come_on p qs rs ss first (added q a b then bare new plans) = added q qs b (come_on p qs rs b first then) bare new plans
 
 pub worked_len : (p : Plans) (qs rs : List Part) → HaveWorked p qs rs → length rs ≡ length qs
 worked_len p [] [] a = refl

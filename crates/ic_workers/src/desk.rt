@@ -13,6 +13,7 @@ ghost use Rattle.ic_workers.specs.inner.Keeping.{parts_at, parts_in, parts_in_al
 use self::handing::gather;
 use crate::kept::{Hand, Kept, empty_part};
 use crate::policy::Policy;
+use ic_in_place::Gauge;
 use ic_machine::{Machine, Program, Told};
 use std::alloc::{AllocError, Global};
 use std::cmp::Reverse;
@@ -306,28 +307,15 @@ impl Desk {
         false
     }
 
-    /// How many places the machines have together, and equations left.
-    fn held(&self) -> u64 {
-        let mut held: u64 = 0;
+    /// How many names and agents the machines have together.
+    fn nodes(&self, gauge: &Gauge) -> u64 {
+        let mut added: u64 = 0;
         for part in &self.parts {
             if let Some(kept) = part {
-                let machine = &kept.machine;
-                let here = machine.places().saturating_add(machine.equations_left());
-                held = held.saturating_add(here);
+                added = added.wrapping_add(gauge.added(&kept.machine));
             }
         }
-        held
-    }
-
-    /// How many places the machines have together.
-    fn places(&self) -> u64 {
-        let mut places: u64 = 0;
-        for part in &self.parts {
-            if let Some(kept) = part {
-                places = places.saturating_add(kept.machine.places());
-            }
-        }
-        places
+        gauge.nodes_with(added)
     }
 
     /// Takes the parts of all hands back.

@@ -2,7 +2,6 @@
 
 ghost use Rattle.std.specs.Prelude.{◌≡◌, ◌≢◌, ℕ, ◌+◌, ◌^◌, ◌<◌, ◌≤◌, [], None, true, IfOk, length};
 ghost use Rattle.ic_arena.specs.declared.word.TheConstants.{GIVEN};
-ghost use Rattle.ic_machine.specs.Net.{places_of};
 ghost use Rattle.ic_machine.specs.Plan.{ArePlans};
 ghost use Rattle.ic_workers.specs.inner.HandsOn.{HasWorked, IsBare};
 ghost use Rattle.ic_workers.specs.inner.Keeping.{part_of, parts_in, HandWorked, HasWork, IsKept, IsReady, MayTurn, TakesTurn};
@@ -236,7 +235,6 @@ pub(crate) fn empty_part(
     requires few { number < 512 }
     requires numbers { 1 ≤ numbers }
     ensures bare { IfOk result (λ k. IsBare (part_of k)) }
-    ensures none { IfOk result (λ k. (kind : ℕ) → places_of kind k.machine ≡ 0) }
     ensures kept { IfOk result (λ k. IsKept program.now (part_of k)) }
     ensures number { IfOk result (λ k. k.number ≡ number) }
     ensures borders { IfOk result (λ k. k.borders

@@ -14,7 +14,7 @@ ghost use Rattle.ic_machine.specs.Plan.{Planned, Plans, ArePlans, IsPlan};
 ghost use Rattle.ic_machine.specs.Runs.{IsStart, Ran, Starts};
 ghost use Rattle.ic_machine.specs.Separate.{IsSeparate};
 ghost use Rattle.ic_meaning.specs.Plans.{ArePlansOf, StandsForNet};
-ghost use Rattle.ic_in_place.specs.Holding.{AreGiven, WereThere};
+ghost use Rattle.ic_in_place.specs.Holding.{AreGiven};
 ghost use Rattle.ic_workers.specs.Parts.{Part, Hold};
 ghost use Rattle.ic_workers.specs.inner.HandsOn.{Come, HandsOn, IsAllOf};
 ghost use Rattle.ic_workers.specs.inner.Sent.{Gave, GaveAll, Shipped, Took, SameCounts, CountsAlso, HasAll};
@@ -52,8 +52,7 @@ pub(crate) fn what_a_part_sends_stays_one_net()
 }
 
 /// The first part holds the configuration with which its machine begins. What one machine has in the end that all parts had,
-/// whatever they did in turn, is reached from it. So it is after that machine has run on. Of each symbol it has no more places
-/// than there were agents at once.
+/// whatever they did in turn, is reached from it. So it is after that machine has run on.
 pub(crate) fn what_parts_come_to_is_reached()
     ensures begun { (rs : Rules) (p : Plans) (c : Configuration) (given : List ℕ) (plan : Planned)
         (operands : List ℕ) (m : Net) (b : Ends) → HasNames c → ArePlans p → length p.arities < GIVEN
@@ -67,7 +66,6 @@ pub(crate) fn what_parts_come_to_is_reached()
         → ArePlans p → ArePlansOf rs numbers p → AreGiven given c → Hold rs p c given [] (first ∷ [])
         → first.net.interactions ≡ 0 → ((i : ℕ) → slice_index_or first.net.counts i 0 ≡ 0)
         → length first.net.counts ≡ length p.plans
-        → ((symbol : ℕ) → WereThere rs c [] symbol (slice_index_or first.net.agents symbol 0))
         → IsAllOf p (first ∷ []) m
         → HasAll rs numbers p c given m }
     ensures ran { (rs : Rules) (numbers : List ℕ) (p : Plans) (c : Configuration) (given : List ℕ)

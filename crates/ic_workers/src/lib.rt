@@ -11,8 +11,7 @@ mod laws;
 pub mod parts;
 mod policy;
 mod stream;
-pub mod telling;
 
 pub use desk::run_by_workers;
 pub use policy::Policy;
-pub use stream::{line_by_workers, reduce_by_workers_stream};
+pub use stream::{line_by_workers, reduce_by_workers, reduce_by_workers_stream};

@@ -1,6 +1,7 @@
 //! Laws of the net that several parts hold. No program calls them.
 
 ghost use Rattle.std.specs.Prelude.{◌≡◌, ◌⊎◌, ℕ, ◌+◌, ◌<◌, ◌≤◌, List, [], ◌∷◌, ◌++◌, Contains, IsTrue, length, map};
+ghost use Rattle.std.specs.List.{AllByRecursion};
 ghost use Rattle.ic_term.specs.Configuration.{Configuration};
 ghost use Rattle.ic_term.specs.Symbol.{is_over};
 ghost use Rattle.ic_rules.specs.RuleSet.{Rules, IsRuleSet};
@@ -17,7 +18,7 @@ ghost use Rattle.ic_workers.specs.Parts.{Part, ArePlaced, Hold, cuts_of};
 
 /// What parts hold. A machine that begins with a configuration holds it, as the only part. If one part runs by itself, all
 /// hold what is reached by the rules of the plans that fire. What the only part holds its machine does. It has no cut, as each
-/// cut has an end in another part.
+/// cut has an end in another part. All machines are for the symbols of the plans.
 pub fn what_parts_hold()
     ensures begun { (rs : Rules) (p : Plans) (c : Configuration) (given : List ℕ) (plan : Planned)
         (operands : List ℕ) (m : Net) (b : Ends) → HasNames c → ArePlans p → length p.arities < GIVEN
@@ -39,6 +40,9 @@ pub fn what_parts_hold()
     ensures ends { (arities cuts : List ℕ) (q : Part) (qs : List Part) (e : CutEnd)
         → ArePlaced arities cuts (q ∷ qs) → Contains q.borders.ends e
         → 1 ≤ times e.cut (cuts_of qs) }
+    ensures symbols { (rs : Rules) (p : Plans) (c : Configuration) (given fired : List ℕ)
+        (qs : List Part) → Hold rs p c given fired qs
+        → AllByRecursion (λ q. q.net.arities ≡ p.arities) qs }
 {
     ic_reaching::laws::what_is_reached_is_one_net();
     ic_meaning::laws::steps_that_fire_nothing_keep_the_net();

@@ -1,17 +1,16 @@
-//! Reducing by several threads what a reader gives.
+//! Reducing by several threads a system, or what a reader gives.
 
-ghost use Rattle.std.specs.Prelude.{◌≡◌, ◌≢◌, ◌<◌, ◌≤◌, IfOk, IfErr, OnOk};
+ghost use Rattle.std.specs.Prelude.{◌≡◌, ◌≢◌, IfOk, IfErr, OnOk};
 ghost use Rattle.std.specs.Io.KnownBytes.{Keeps};
-ghost use Rattle.ic_diagnostics.specs.Telling.{AppendedWithin, AppendedAtWithin};
 ghost use Rattle.ic_in_place.specs.Stopping.{HasCome};
 ghost use Rattle.ic_streams.specs.Streams.{OfText, IsAnswered, FaultOf, TakesAtWithin, TakesTextWithin};
-ghost use Rattle.ic_workers.specs.Reductions.{AnswersByWorkers, EndsByWorkers, ReducesByWorkers, TellsOfWorkers};
+ghost use Rattle.ic_in_place.specs.Reductions.{EndsAs, EndsOf, IsReducedTo, ReducesInPlace, Tells};
 
 use crate::desk::run_by_workers;
 use crate::policy::Policy;
 use ic_diagnostics::{Kind, refused_within};
 use ic_flat::WideSystem;
-use ic_in_place::{Asked, Bounds, Outcome, Stopped, Watch, stopped_line};
+use ic_in_place::{Asked, Bounds, Outcome, Reduced, Stopped, Watch, read_stopped, stopped_line};
 use ic_streams::{StreamFault, read_text_within, write_line};
 use ic_text::{Limits, find_wide_system};
 use std::alloc::{AllocError, Global};
@@ -38,8 +37,8 @@ pub fn reduce_by_workers_stream<T: Threads + Sync, C: Clock + Sync, V: Watch, R:
     told: &mut Vec<u8>,
 ) -> Result<Outcome, StreamFault>
     ensures answered { OfText (R.remaining reader.old)
-        (λ text. IsAnswered (ReducesByWorkers limits bounds asked) text result
-        (W.contents writer.old) (W.contents writer.new) × IfOk result (λ outcome. TellsOfWorkers limits
+        (λ text. IsAnswered (ReducesInPlace limits bounds asked) text result
+        (W.contents writer.old) (W.contents writer.new) × IfOk result (λ outcome. Tells limits
         bounds asked text outcome (W.contents writer.old) (W.contents writer.new))) }
     ensures silent { IfErr result (λ fault. fault ≢ StreamFault.Write
         → Keeps (W.contents writer.old) (W.contents writer.new)) }
@@ -47,12 +46,7 @@ pub fn reduce_by_workers_stream<T: Threads + Sync, C: Clock + Sync, V: Watch, R:
         (TakesTextWithin limits (R.remaining reader.old) (R.remaining reader.new)) }
     ensures taken_at_fault { IfErr result
         (λ fault. TakesAtWithin limits fault (R.remaining reader.old) (R.remaining reader.new)) }
-    ensures told { IfErr result (λ fault. AppendedWithin limits
-        (ReducesByWorkers limits bounds asked) Kind.System
-        (R.remaining reader.old) (R.remaining reader.new) fault
-        told.old.items told.new.items) }
     ensures quiet { OnOk result (told.new.items ≡ told.old.items) }
-    ensures alone { policy.workers ≤ 1 → IfOk result (λ outcome. outcome.shared ≡ 0) }
 {
     let text = read_text_within(alloc, limits, reader)?;
     let (line, outcome) = reached_line(
@@ -76,14 +70,10 @@ fn reached_line<T: Threads + Sync, C: Clock + Sync, V: Watch>(
     told: &mut Vec<u8>,
 ) -> Result<(Vec<u8>, Outcome), StreamFault>
     ensures line { IfOk result
-        (λ answer. AnswersByWorkers limits bounds asked text.now answer.1 answer.0.items) }
+        (λ answer. EndsAs limits bounds asked text.now answer.1 answer.0.items) }
     ensures refused { IfErr result
-        (λ fault. FaultOf (ReducesByWorkers limits bounds asked) text.now fault) }
-    ensures told { IfErr result (λ fault. AppendedAtWithin limits
-        (ReducesByWorkers limits bounds asked) Kind.System
-        text.now fault told.old.items told.new.items) }
+        (λ fault. FaultOf (ReducesInPlace limits bounds asked) text.now fault) }
     ensures quiet { OnOk result (told.new.items ≡ told.old.items) }
-    ensures alone { policy.workers ≤ 1 → IfOk result (λ answer. answer.1.shared ≡ 0) }
     ensures sort { IfErr result
         (λ fault. (fault ≢ StreamFault.Write) × (fault ≢ StreamFault.Read)) }
 {
@@ -108,13 +98,29 @@ pub fn line_by_workers<T: Threads + Sync, C: Clock + Sync, V: Watch>(
     asked: Asked,
     watch: &V,
 ) -> Result<(Vec<u8>, Outcome), AllocError>
-    ensures ends { IfOk result
-        (λ answer. EndsByWorkers system bounds asked answer.1 answer.0.items) }
-    ensures alone { policy.workers ≤ 1 → IfOk result (λ answer. answer.1.shared ≡ 0) }
+    ensures { IfOk result
+        (λ answer. EndsOf system bounds asked answer.1 answer.0.items) }
 {
     let stopped = run_or_run_anew(rt, clock, alloc, &system, policy, bounds, watch)?;
     let answer = stopped_line(alloc, system, stopped, asked)?;
     Ok(answer)
+}
+
+/// Reduces a system by several threads, as `reduce_in_place` does by one. What was reached has its names numbered anew.
+pub fn reduce_by_workers<T: Threads + Sync, C: Clock + Sync, V: Watch>(
+    rt: &T,
+    clock: &C,
+    alloc: Global,
+    system: &WideSystem,
+    policy: Policy,
+    bounds: Bounds,
+    watch: &V,
+) -> Result<Reduced, AllocError>
+    ensures { IfOk result (IsReducedTo system.now bounds) }
+{
+    let stopped = run_or_run_anew(rt, clock, alloc, system, policy, bounds, watch)?;
+    let reduced = read_stopped(alloc, system, stopped)?;
+    Ok(reduced)
 }
 
 /// Reduces a system by several threads. If memory ran out while they handed on what they had, or numbers did, nothing of that is
@@ -128,9 +134,8 @@ fn run_or_run_anew<T: Threads + Sync, C: Clock + Sync, V: Watch>(
     bounds: Bounds,
     watch: &V,
 ) -> Result<Stopped, AllocError>
-    ensures come { IfOk result (λ stopped. HasCome system.now bounds stopped.given.items
-        stopped.by_rule.items stopped.machine stopped.end stopped.places stopped.shared) }
-    ensures alone { policy.workers ≤ 1 → IfOk result (λ stopped. stopped.shared ≡ 0) }
+    ensures { IfOk result (λ stopped. HasCome system.now bounds stopped.given.items
+        stopped.by_rule.items stopped.machine stopped.end) }
 {
     match run_by_workers(rt, clock, alloc, system, policy, bounds, watch) {
         Ok(stopped) => Ok(stopped),

@@ -8,33 +8,68 @@ use ic_check::{Given, Layout, Source, Verdict, check_files};
 use ic_exits::Failure;
 use ic_streams::StreamFault;
 use std::alloc::{AllocError, Global};
-use std::io::{self, BufWriter};
+use std::io::{self, BufWriter, Write};
 
-/// Prints the faults and warnings of the files of these paths, which are scripts or not, in their order and this format,
-/// each as it is found; for `-` standard input is read. One that can't be read doesn't keep the others from being checked; why it can't is
+/// What is asked of a check.
+#[derive(Clone, Copy)]
+pub(crate) struct Asked {
+    pub(crate) format: ReportFormat,
+    /// Whether the files are scripts.
+    pub(crate) is_script: bool,
+    /// Whether a warning counts as a fault.
+    pub(crate) is_strict: bool,
+}
+
+/// Prints the faults and warnings of the files of these paths, in their order and this format, each as it is found; for
+/// `-` standard input is read. One that can't be read doesn't keep the others from being checked; why it can't is
 /// appended to `told`.
 pub(crate) fn check(
     rt: &HostRuntime,
     paths: &[String],
-    format: ReportFormat,
-    is_script: bool,
+    asked: Asked,
     notes: &Notes,
     told: &mut Vec<u8>,
 ) -> Result<(), Failure> {
+    let is_script = asked.is_script;
     let source = FileSource { rt, is_script };
     let output = NotedOutput::new(io::writer(rt), notes);
-    let Ok(mut output) = BufWriter::new(rt.alloc(), output) else {
+    let Ok(output) = BufWriter::new(rt.alloc(), output) else {
         return Err(Failure::Stream(StreamFault::Memory));
     };
-    let layout = match format {
+    let mut output = Watched {
+        output,
+        is_written: false,
+    };
+    let layout = match asked.format {
         ReportFormat::Text => Layout::Lines,
         ReportFormat::Json => Layout::Objects,
     };
     let checked = check_files(rt.alloc(), &source, paths, layout, &mut output, told);
     match checked.map_err(Failure::Stream)? {
+        Verdict::Fine if asked.is_strict && output.is_written => Err(Failure::Faults),
         Verdict::Fine => Ok(()),
         Verdict::Faulty => Err(Failure::Faults),
         Verdict::Unread => Err(Failure::Stream(StreamFault::Read)),
+    }
+}
+
+/// An output, and whether anything was written to it.
+#[derive(Drop)]
+struct Watched<W> {
+    output: W,
+    is_written: bool,
+}
+
+impl<W: Write> Write for Watched<W> {
+    fn write(&mut self, bytes: &[u8]) -> io::Result<usize> {
+        if !bytes.is_empty() {
+            self.is_written = true;
+        }
+        self.output.write(bytes)
+    }
+
+    fn flush(&mut self) -> io::Result<()> {
+        self.output.flush()
     }
 }
 

@@ -8,19 +8,18 @@ use crate::{
     serve_session, show, texts,
 };
 use ic_args::table::{
-    CHECKED, DISK, EVERY, EXPLAIN, FIGURES, FILE, HELPERS, KEEP, LIMITS, LINES, MAX_ROUNDS,
-    MAX_STEPS, NAMES, NODES, OVERWRITE, PARTIAL, QUIET, REDUCERS, REPORT, RESUME, ROUNDS, RUNNERS,
-    SCRIPT, SCRIPTS, SECONDS, STATS, STEPS, TABLE, TAKEN, TOPIC, TRACED, TURNS, WORKERS, Word,
-    table,
+    CHECKED, DISK, DRAWN, EVERY, EXPLAIN, FIGURES, FILE, GROUP, HELPERS, KEEP, LIMITS, LINES,
+    MAX_ROUNDS, MAX_STEPS, NAMES, NODES, ONE_FILE, OVERWRITE, PARTIAL, QUIET, REDUCERS, REPORT,
+    RESUME, ROUNDS, RULES_TOO, RUNNERS, SCRIPT, SCRIPTS, SECONDS, STATS, STEPS, STRICT, SUMS,
+    TABLE, TAKEN, TOPIC, TRACED, TURNS, WORKERS, Word, table,
 };
 use ic_args::{
     FiguresFormat, Place, ReportFormat, TextLimits, TraceFormat, Values, WordsFault, help_of,
 };
-use ic_by_rounds::Workers;
 use ic_causes::{NotedInput, NotedOutput, Notes};
 use ic_diagnostics::{once_telling, settle_telling};
 use ic_exits::Failure;
-use ic_in_place::{Asked, Bounds};
+use ic_in_place::{Asked, Bounds, RoundBounds};
 use ic_text::Limits;
 use ic_workers::Policy;
 use std::io::{self, StdinLock};
@@ -102,7 +101,10 @@ fn once<T>(doing: &Doing<'_, '_, T>, told: &mut Vec<u8>) -> Result<(), Failure> 
 
 fn draw<T>(doing: &Doing<'_, '_, T>, told: &mut Vec<u8>) -> Result<(), Failure> {
     let mut input = open_input(doing)?;
-    looking::draw(doing.rt, &mut input, doing.notes, told)
+    match doing.values.number_met(&DRAWN) {
+        Some(rounds) => looking::draw_after(doing.rt, rounds, &mut input, doing.notes, told),
+        None => looking::draw(doing.rt, &mut input, doing.notes, told),
+    }
 }
 
 fn expand<T>(doing: &Doing<'_, '_, T>, told: &mut Vec<u8>) -> Result<(), Failure> {
@@ -111,10 +113,25 @@ fn expand<T>(doing: &Doing<'_, '_, T>, told: &mut Vec<u8>) -> Result<(), Failure
 }
 
 fn trace<T>(doing: &Doing<'_, '_, T>, told: &mut Vec<u8>) -> Result<(), Failure> {
-    let rounds = doing.values.number(&TRACED);
-    let format = TraceFormat::of(doing.values.choice(&TABLE));
+    let bounds = RoundBounds {
+        rounds: doing.values.number(&TRACED),
+        nodes: doing.values.number(&NODES),
+    };
+    let wanted = looking::Wanted {
+        format: TraceFormat::of(doing.values.choice(&TABLE)),
+        is_summed: doing.values.flag(&SUMS),
+    };
+    let limits = limits_of(doing.values);
     let mut input = open_input(doing)?;
-    looking::trace(doing.rt, rounds, format, &mut input, doing.notes, told)
+    looking::trace(
+        doing.rt,
+        limits,
+        bounds,
+        wanted,
+        &mut input,
+        doing.notes,
+        told,
+    )
 }
 
 /// Reduces the text by rounds, in place, or in place with files in which is kept what is reached.
@@ -134,27 +151,36 @@ fn reduce<T: Threads + Wait + Sync>(
     }
 }
 
-/// By rounds a net is reduced by two threads, where no number is said.
-fn reduce_by_rounds<T: Threads + Wait>(
+/// By rounds a net is reduced by one thread.
+fn reduce_by_rounds<T>(
     doing: &Doing<'_, '_, T>,
     rounds: u64,
     told: &mut Vec<u8>,
 ) -> Result<(), Failure> {
-    let maker = Workers {
-        rt: doing.threads,
-        count: doing.values.number_met(&REDUCERS).unwrap_or(2) as usize,
-    };
-    let partial = doing.values.flag(&PARTIAL);
-    let mut input = open_input(doing)?;
-    looking::reduce(
-        doing.rt,
-        &maker,
+    let bounds = RoundBounds {
         rounds,
-        partial,
+        nodes: doing.values.number(&NODES),
+    };
+    let wanted = wanted_of(doing.values, Policy::of(1));
+    let limits = limits_of(doing.values);
+    let mut input = open_input(doing)?;
+    reducing::reduce_by_rounds(
+        doing.rt,
+        limits,
+        bounds,
+        wanted,
         &mut input,
         doing.notes,
         told,
     )
+}
+
+/// The limits of a text.
+fn limits_of(values: &Values) -> Limits {
+    match TextLimits::of(values.choice(&LIMITS)) {
+        TextLimits::Served => Limits::Served,
+        TextLimits::Wide => Limits::Wide,
+    }
 }
 
 fn reduce_in_place<T: Threads + Sync>(
@@ -164,10 +190,7 @@ fn reduce_in_place<T: Threads + Sync>(
     let bounds = bounds_of(doing.values);
     let threads = threads_for(doing.threads, said_of(doing.values), bounds.steps);
     let wanted = wanted_of(doing.values, Policy::of(threads));
-    let limits = match TextLimits::of(doing.values.choice(&LIMITS)) {
-        TextLimits::Served => Limits::Served,
-        TextLimits::Wide => Limits::Wide,
-    };
+    let limits = limits_of(doing.values);
     let mut input = open_input(doing)?;
     reducing::reduce(
         doing.rt,
@@ -182,7 +205,7 @@ fn reduce_in_place<T: Threads + Sync>(
 }
 
 /// One that goes on with what is kept reads no text.
-fn reduce_kept<T>(
+fn reduce_kept<T: Threads + Sync>(
     doing: &Doing<'_, '_, T>,
     path: &str,
     begins: bool,
@@ -191,17 +214,20 @@ fn reduce_kept<T>(
     let kept = KeptIn {
         path,
         begins,
+        from_one: doing.values.flag(&ONE_FILE),
         seconds: doing.values.number(&SECONDS),
     };
-    let wanted = wanted_of(doing.values, Policy::of(1));
+    let bounds = bounds_of(doing.values);
+    let threads = threads_for(doing.threads, said_of(doing.values), bounds.steps);
+    let wanted = wanted_of(doing.values, Policy::of(threads));
     let mut input = if begins {
         open_input(doing)?
     } else {
         standard(doing)
     };
-    let bounds = bounds_of(doing.values);
     keeping::reduce(
         doing.rt,
+        doing.threads,
         kept,
         bounds,
         wanted,
@@ -232,6 +258,7 @@ fn wanted_of(values: &Values, policy: Policy) -> Wanted {
     let format = FiguresFormat::of(values.choice(&FIGURES));
     Wanted {
         asked: asked_of(values.flag(&QUIET), values.flag(&PARTIAL)),
+        has_rules: values.flag(&RULES_TOO),
         figures: if values.flag(&STATS) {
             Some(format)
         } else {
@@ -252,9 +279,12 @@ fn asked_of(quiet: bool, partial: bool) -> Asked {
 
 fn check<T>(doing: &Doing<'_, '_, T>, told: &mut Vec<u8>) -> Result<(), Failure> {
     let files = words_at(doing, &CHECKED)?;
-    let format = ReportFormat::of(doing.values.choice(&REPORT));
-    let is_script = doing.values.flag(&SCRIPTS);
-    checking::check(doing.rt, &files, format, is_script, doing.notes, told)
+    let asked = checking::Asked {
+        format: ReportFormat::of(doing.values.choice(&REPORT)),
+        is_script: doing.values.flag(&SCRIPTS),
+        is_strict: doing.values.flag(&STRICT),
+    };
+    checking::check(doing.rt, &files, asked, doing.notes, told)
 }
 
 fn create_disk<T>(doing: &Doing<'_, '_, T>) -> Result<(), Failure> {
@@ -267,7 +297,11 @@ fn serve<T: Threads + Wait + Copy + Send + 'static>(
 ) -> Result<(), Failure> {
     let path = path_of(doing.values);
     let explains = doing.values.flag(&EXPLAIN);
-    let making = making_of(doing.values);
+    let making = making_of(
+        doing.threads,
+        doing.values,
+        doing.values.number(&GROUP) as u32,
+    );
     serve_session(doing.rt, doing.threads, path, making, explains, doing.notes)
 }
 
@@ -298,7 +332,7 @@ fn batch<T: Threads + Wait + Copy + Send + 'static>(
     told: &mut Vec<u8>,
 ) -> Result<(), Failure> {
     let most = most_of(doing.values);
-    let making = making_of(doing.values);
+    let making = making_of(doing.threads, doing.values, 1);
     let files = batching::Files {
         disk: path_of(doing.values),
         lines: doing.values.word(&LINES).unwrap_or(""),
@@ -319,11 +353,17 @@ fn most_of(values: &Values) -> u64 {
     values.number_met(&TAKEN).unwrap_or(MAX_ROUNDS)
 }
 
-/// By how many workers a round is made, and after how many rounds they are kept.
-fn making_of(values: &Values) -> Making {
+/// How many threads make rounds of several jobs, as many as there are processors where no number is said, after how many
+/// rounds they are kept, and how many commands are kept at once.
+fn making_of<T: Threads>(threads: &T, values: &Values, group: u32) -> Making {
+    let said = match values.number_met(&WORKERS) {
+        Some(number) => Some(number as u32),
+        None => None,
+    };
     Making {
-        workers: values.number(&WORKERS) as u32,
+        workers: threads_for(threads, said, MAX_STEPS),
         every: values.number(&EVERY) as u32,
+        group,
     }
 }
 

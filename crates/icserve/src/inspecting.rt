@@ -70,25 +70,18 @@ fn look(rt: &HostRuntime, path: &str, layout: Layout, notes: &Notes) -> Result<b
     let (mut first, mut second) = (file.at(0), file.at(SECOND_AT));
     let slots = read_slots(rt.alloc(), &mut first, &mut second).map_err(Failure::Inspect)?;
     let (mut first, mut second) = (file.at(0), file.at(SECOND_AT));
+    let looked = match ic_inspect::look(rt.alloc(), &slots, &mut first, &mut second) {
+        Ok(looked) => looked,
+        Err(InspectFault::Changed) => return Ok(false),
+        Err(fault) => return Err(Failure::Inspect(fault)),
+    };
     let mut output = NotedOutput::new(io::writer(rt), notes);
-    match ic_inspect::inspect(
-        rt.alloc(),
-        layout,
-        &slots,
-        &mut first,
-        &mut second,
-        &mut output,
-    ) {
-        Ok(()) => {
-            // Where the first slot has a body, the file isn't another one.
-            if slots.first.len() <= HEAD {
-                tell_other(rt, path);
-            }
-            Ok(true)
-        }
-        Err(InspectFault::Changed) => Ok(false),
-        Err(fault) => Err(Failure::Inspect(fault)),
+    ic_inspect::tell(rt.alloc(), layout, &looked, &mut output).map_err(Failure::Inspect)?;
+    // Where the first slot has a body, the file isn't another one.
+    if slots.first.len() <= HEAD {
+        tell_other(rt, path);
     }
+    Ok(true)
 }
 
 /// Tells on standard error that no reduction goes on with the file of this path alone.

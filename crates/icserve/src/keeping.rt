@@ -1,24 +1,26 @@
 //! The program's word `reduce` where what is reached is kept in two files.
 
 use crate::kept::check_fronts;
-use crate::reducing::{Wanted, tell_end, time_since};
+use crate::reducing::{Wanted, put_system, tell_end};
+use crate::renewing::{Paths, renew_lost, renew_newest};
+use crate::unbegun::{check_unbegun, empty};
 use crate::{NotedDisk, open_disk, open_disk_as};
 use ic_causes::{Cause, FileCall, NotedOutput, Notes, Reason, Target, shown_path};
 use ic_diagnostics::{Kind, refused_within};
 use ic_disk::Disk;
 use ic_exits::Failure;
-use ic_in_place::{Asked, Bounds, Outcome};
-use ic_keeping::{Clock, Ended, KeepingFault, Pace, begin, begun, live};
+use ic_in_place::{Bounds, Outcome};
+use ic_keeping::{Ended, KeepingFault, Pace, Start, begun, live, live_anew};
 use ic_kept::Keeper;
 use ic_progress::Watching;
-use ic_state::State;
 use ic_streams::{StreamFault, read_text_within, write_line};
 use ic_text::Limits;
 use std::alloc::AllocError;
 use std::fs::metadata;
 use std::io::{self, ErrorKind, Read};
 use std::os::unix::fs::MetadataExt;
-use std::time::{Duration, Instant};
+use std::thread::Threads;
+use std::time::Duration;
 
 /// Where a reduction is kept, and how often.
 #[derive(Clone, Copy)]
@@ -27,27 +29,17 @@ pub(crate) struct KeptIn<'a> {
     pub(crate) path: &'a str,
     /// Whether it begins. Else it goes on with what is kept.
     pub(crate) begins: bool,
+    /// Whether it goes on from one file, where the other is lost or damaged.
+    pub(crate) from_one: bool,
     /// About how many seconds are between two keeps.
     pub(crate) seconds: u64,
 }
 
-/// A clock that counts from when it was made.
-#[derive(Drop)]
-struct Since<'a> {
-    rt: &'a HostRuntime,
-    begun: Option<Instant>,
-}
-
-impl Clock for Since<'_> {
-    fn millis(&self) -> u64 {
-        u64::try_from(time_since(self.rt, self.begun).as_millis()).unwrap_or(u64::MAX)
-    }
-}
-
 /// Reduces a system in place, keeps in two files what is reached, and prints it at the end, as far as that is wanted.
 /// Either it begins with the system on standard input, or it goes on with what the files have.
-pub(crate) fn reduce<R: Read>(
+pub(crate) fn reduce<T: Threads + Sync, R: Read>(
     rt: &HostRuntime,
+    threads: &T,
     kept: KeptIn<'_>,
     bounds: Bounds,
     wanted: Wanted,
@@ -55,9 +47,18 @@ pub(crate) fn reduce<R: Read>(
     notes: &Notes,
     told: &mut Vec<u8>,
 ) -> Result<(), Failure> {
-    let (first, second) = open_kept(rt, kept, input, notes, told)?;
-    let pace = Pace::new(kept.seconds.saturating_mul(1_000));
-    let (ended, _keeper) = live_over(rt, first, second, bounds, pace, wanted.asked)?;
+    if !kept.begins {
+        let second = second_of(rt, kept.path)?;
+        renew_lost(rt, paths_of(kept, &second), kept.from_one, notes)?;
+    }
+    let (ended, _keeper) = match live_in(rt, threads, kept, bounds, wanted, input, notes, told) {
+        Err(Failure::Kept(KeepingFault::Unsound)) if kept.from_one => {
+            let second = second_of(rt, kept.path)?;
+            renew_newest(rt, paths_of(kept, &second), notes)?;
+            live_in(rt, threads, kept, bounds, wanted, input, notes, told)?
+        }
+        lived => lived?,
+    };
     let done = tell(rt, ended, bounds, wanted, notes);
     if matches!(done, Err(Failure::Overgrown(_, _))) {
         let _ = tell_kept(rt, kept.path, told);
@@ -65,22 +66,48 @@ pub(crate) fn reduce<R: Read>(
     done
 }
 
-/// The disks in the two files: as they are, or with the state that the text on this input begins with.
+/// The paths of its two files, of which the second is this one.
+fn paths_of<'a>(kept: KeptIn<'a>, second: &'a String) -> Paths<'a> {
+    Paths {
+        first: kept.path,
+        second: second.as_str(),
+    }
+}
+
+/// Lives with the reduction in the two files, however it began, until it ends.
+fn live_in<'a, T: Threads + Sync, R: Read>(
+    rt: &HostRuntime,
+    threads: &T,
+    kept: KeptIn<'_>,
+    bounds: Bounds,
+    wanted: Wanted,
+    input: &mut R,
+    notes: &'a Notes,
+    told: &mut Vec<u8>,
+) -> Result<(Ended, Keeper<NotedDisk<'a>>), Failure> {
+    let (from, first, second) = open_kept(rt, kept, input, notes, told)?;
+    let pace = Pace::new(kept.seconds.saturating_mul(1_000));
+    live_over(rt, threads, from, first, second, bounds, pace, wanted)
+}
+
+/// The disks in the two files: as they are, or empty, with what the text on this input begins with.
 fn open_kept<'a, R: Read>(
     rt: &HostRuntime,
     kept: KeptIn<'_>,
     input: &mut R,
     notes: &'a Notes,
     told: &mut Vec<u8>,
-) -> Result<(NotedDisk<'a>, NotedDisk<'a>), Failure> {
+) -> Result<(Option<Start>, NotedDisk<'a>, NotedDisk<'a>), Failure> {
     if kept.begins {
-        let state = read_state(rt, Limits::Wide, input, told).map_err(Failure::Stream)?;
-        return begin_in(rt, kept.path, &state, notes, told);
+        let begun = read_begun(rt, Limits::Wide, input, told).map_err(Failure::Stream)?;
+        let (first, second) = make_both(rt, kept.path, notes, told)?;
+        return Ok((Some(begun), first, second));
     }
-    open_both(rt, kept.path, notes, told)
+    let (first, second) = open_both(rt, kept.path, notes, told)?;
+    Ok((None, first, second))
 }
 
-/// Tells of a net that is kept in the file of this path and has too many places.
+/// Tells of a net that is kept in the file of this path and has too many names and agents.
 fn tell_kept(rt: &HostRuntime, path: &str, told: &mut Vec<u8>) -> Result<(), AllocError> {
     let path = shown_path(rt.alloc(), path.as_bytes())?;
     told.extend_from_slice(b"the net is kept: `icserve reduce --resume ")?;
@@ -88,31 +115,46 @@ fn tell_kept(rt: &HostRuntime, path: &str, told: &mut Vec<u8>) -> Result<(), All
     told.extend_from_slice(b"` goes on with it, given a greater --nodes\n")
 }
 
-/// Lives with the reduction that is kept on two disks, however it began, until it ends. How far it has come is told on
-/// standard error.
-fn live_over<D: Disk + Drop>(
+/// Lives with the reduction that is kept on two disks, or with one that begins there, until it ends. How far it has come is
+/// told on standard error.
+fn live_over<D: Disk + Drop, T: Threads + Sync>(
     rt: &HostRuntime,
+    threads: &T,
+    from: Option<Start>,
     first: D,
     second: D,
     bounds: Bounds,
     pace: Pace,
-    asked: Asked,
+    wanted: Wanted,
 ) -> Result<(Ended, Keeper<D>), Failure> {
     let watching = Watching::new(rt);
-    let clock = Since {
-        rt,
-        begun: Instant::now(rt).ok(),
+    let lived = match from {
+        Some(begun) => live_anew(
+            threads,
+            rt,
+            rt.alloc(),
+            begun,
+            first,
+            second,
+            wanted.policy,
+            bounds,
+            pace,
+            wanted.asked,
+            &watching,
+        ),
+        None => live(
+            threads,
+            rt,
+            rt.alloc(),
+            first,
+            second,
+            wanted.policy,
+            bounds,
+            pace,
+            wanted.asked,
+            &watching,
+        ),
     };
-    let lived = live(
-        rt.alloc(),
-        first,
-        second,
-        bounds,
-        pace,
-        asked,
-        &clock,
-        &watching,
-    );
     watching.wipe();
     match lived {
         Ok(lived) => Ok(lived),
@@ -120,42 +162,47 @@ fn live_over<D: Disk + Drop>(
     }
 }
 
-/// The state with which the reduction of a text begins that is read within these limits.
-fn read_state<R: Read>(
+/// With what the reduction of a text begins that is read within these limits.
+fn read_begun<R: Read>(
     rt: &HostRuntime,
     limits: Limits,
     input: &mut R,
     told: &mut Vec<u8>,
-) -> Result<State, StreamFault> {
+) -> Result<Start, StreamFault> {
     let text = read_text_within(rt.alloc(), limits, input)?;
     match begun(rt.alloc(), &text) {
-        Ok(state) => Ok(state),
+        Ok(begun) => Ok(begun),
         Err(misread) => Err(refused_within(rt.alloc(), limits, Kind::System, &text, misread, told)),
     }
 }
 
-/// Keeps a state as the first in the two files of a path, which are made where they are missing. None is made where the other
-/// holds something, or can't be had.
-fn begin_in<'a>(
+/// The disks in the two files of a path, both empty. They are made where they are missing. None is made where the other holds
+/// something, or can't be had. What a stop within a first keep has left there is taken out.
+fn make_both<'a>(
     rt: &HostRuntime,
     path: &str,
-    state: &State,
     notes: &'a Notes,
     told: &mut Vec<u8>,
 ) -> Result<(NotedDisk<'a>, NotedDisk<'a>), Failure> {
     look_at_second(rt, path, notes)?;
-    let mut first = open_disk(rt, path, true, notes)?;
-    check_empty(&mut first)?;
+    let other = second_of(rt, path)?;
+    let first = open_disk(rt, path, true, notes)?;
+    check_unbegun(rt, path, Target::File, notes)?;
     check_apart(rt, path, notes, told)?;
-    let mut second = open_second(rt, path, true, notes)?;
-    begin(rt.alloc(), state, &mut first, &mut second).map_err(Failure::Kept)?;
+    let second = open_second(rt, path, true, notes)?;
+    check_unbegun(rt, other.as_str(), Target::Second, notes)?;
+    empty(rt, path, Target::File, notes)?;
+    empty(rt, other.as_str(), Target::Second, notes)?;
     Ok((first, second))
 }
 
-/// Refuses a second file that holds something or can't be had. It may be missing.
+/// Refuses a second file that can't be had, or that holds something. It may be missing.
 fn look_at_second(rt: &HostRuntime, path: &str, notes: &Notes) -> Result<(), Failure> {
     match open_second(rt, path, false, notes) {
-        Ok(mut second) => check_empty(&mut second),
+        Ok(_second) => {
+            let other = second_of(rt, path)?;
+            check_unbegun(rt, other.as_str(), Target::Second, notes)
+        }
         Err(failure) => {
             if is_missing(notes.last()) {
                 return Ok(());
@@ -170,15 +217,6 @@ fn is_missing(cause: Option<Cause>) -> bool {
     match cause {
         Some(cause) => cause.reason == Reason::Missing,
         None => false,
-    }
-}
-
-/// Refuses a disk that holds something.
-fn check_empty(disk: &mut NotedDisk<'_>) -> Result<(), Failure> {
-    match disk.len() {
-        Ok(0) => Ok(()),
-        Ok(_) => Err(Failure::Kept(KeepingFault::NotEmpty)),
-        Err(_) => Err(Failure::Kept(KeepingFault::Device)),
     }
 }
 
@@ -262,15 +300,21 @@ fn tell(
 ) -> Result<(), Failure> {
     let Ended {
         end,
-        places,
+        nodes,
         left,
+        shared,
         rules,
         state,
         line,
         stuck,
+        circle,
     } = ended;
     let mut output = NotedOutput::new(io::writer(rt), notes);
-    write_line(&mut output, &line).map_err(Failure::Stream)?;
+    if wanted.has_rules {
+        put_system(rt.alloc(), &rules, &line, &mut output).map_err(Failure::Stream)?;
+    } else {
+        write_line(&mut output, &line).map_err(Failure::Stream)?;
+    }
     let time = Duration::from_millis(state.millis);
     let outcome = Outcome {
         end,
@@ -278,10 +322,11 @@ fn tell(
         rules,
         by_rule: state.by_rule,
         name_steps: None,
-        places,
+        nodes,
         left,
-        shared: 0,
+        shared,
         stuck,
+        circle,
     };
-    tell_end(rt, &outcome, time, wanted, bounds.nodes)
+    tell_end(rt, &outcome, None, time, wanted, bounds.nodes)
 }

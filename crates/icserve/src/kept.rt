@@ -3,6 +3,7 @@
 use crate::HostFile;
 use crate::inspecting::open_to_read_as;
 use crate::others::{Another, another_of, holds_table, is_of_reduction};
+use crate::renewing::Paths;
 use ic_args::ReportFormat;
 use ic_causes::{Cause, NotedOutput, Notes, Reason, Target};
 use ic_disk::DiskFault;
@@ -165,6 +166,92 @@ fn see_at(
         Ok(opening) => Ok(see(rt, &opening)?),
         Err(error) if error.kind() == ErrorKind::OutOfMemory => Err(KeepingFault::Memory),
         Err(_) => Err(KeepingFault::Device),
+    }
+}
+
+/// One of the two files of a reduction.
+#[derive(Clone, Copy, PartialEq, Eq)]
+pub(crate) enum Place {
+    First,
+    Second,
+}
+
+impl Place {
+    /// The other one.
+    pub(crate) fn other(self) -> Place {
+        match self {
+            Place::First => Place::Second,
+            Place::Second => Place::First,
+        }
+    }
+}
+
+/// A file that is lost or damaged beside one that has a whole state.
+#[derive(Clone, Copy)]
+pub(crate) struct Lost {
+    /// Which one.
+    pub(crate) place: Place,
+    /// Whether it is known that it held no newer state: the other one holds the end of the reduction.
+    pub(crate) is_older: bool,
+}
+
+/// Which of two files is lost or damaged, where the other one has a whole state, as their first bytes tell.
+pub(crate) fn lost_of(rt: &HostRuntime, paths: Paths<'_>) -> Option<Lost> {
+    let first = seen_or_missing(rt, paths.first, Target::File)?;
+    let second = seen_or_missing(rt, paths.second, Target::Second)?;
+    if let Some(is_older) = is_lost_beside(second, first) {
+        let place = Place::Second;
+        return Some(Lost { place, is_older });
+    }
+    let is_older = is_lost_beside(first, second)?;
+    let place = Place::First;
+    Some(Lost { place, is_older })
+}
+
+/// Which of two files is the newest, where the other one has a whole state too, as their first bytes tell.
+pub(crate) fn newest_at(rt: &HostRuntime, paths: Paths<'_>) -> Option<Place> {
+    let first = seen_or_missing(rt, paths.first, Target::File)?;
+    let second = seen_or_missing(rt, paths.second, Target::Second)?;
+    match newest_of(first, second) {
+        Newest::First if is_whole(second) => Some(Place::First),
+        Newest::Second if is_whole(first) => Some(Place::Second),
+        _ => None,
+    }
+}
+
+/// Whether a state stands in a file, whole, before an open gate.
+fn is_whole(seen: Seen) -> bool {
+    match seen {
+        Seen::State(front, _) => front.opened,
+        _ => false,
+    }
+}
+
+/// What is seen of the file of this path, unless it can't be read.
+fn seen_or_missing(rt: &HostRuntime, path: &str, target: Target) -> Option<Seen> {
+    let notes = Notes::new();
+    match see_at(rt, path, target, &notes) {
+        Ok(seen) => Some(seen),
+        Err(_) if is_missing(notes.last()) => Some(Seen::Missing),
+        Err(_) => None,
+    }
+}
+
+/// Whether a file is lost or damaged beside one that has a whole state. If so, whether it is known that it held no newer one:
+/// after the end nothing is kept.
+fn is_lost_beside(seen: Seen, other: Seen) -> Option<bool> {
+    let Seen::State(front, head) = other else {
+        return None;
+    };
+    if !front.opened {
+        return None;
+    }
+    match seen {
+        Seen::Missing | Seen::CutOff => Some(head.ended),
+        Seen::CutShort(lost) | Seen::NoState(lost) if lost.opened && lost.number > front.number => {
+            Some(head.ended)
+        }
+        _ => None,
     }
 }
 

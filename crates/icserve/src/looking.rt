@@ -1,39 +1,18 @@
-//! What the program does for whoever looks at nets, on its input and standard output: `reduce` by rounds, `trace` and
-//! `draw`. Where the text is refused, the lines that tell its place are appended to `told`.
+//! What the program does for whoever looks at nets, on its input and standard output: `trace` and `draw`. Where the text is
+//! refused, the lines that tell its place are appended to `told`.
 
+use crate::reducing::{of_memory, put_system, reached_of};
 use ic_args::TraceFormat;
-use ic_by_rounds::{Ended, Format, Reduction, Workers, reduce_stream, trace_stream};
+use ic_by_rounds::{Format, Summary, Traced, summary_line, summary_object, trace_stream};
 use ic_causes::{NotedOutput, Notes};
-use ic_exits::{Failure, stuck_line};
+use ic_exits::{Failure, circle_line, reduce_ending, stuck_line};
+use ic_in_place::{Asked, End, RoundBounds, Rounded, reduce_by_rounds_stream};
 use ic_nets::draw_stream;
+use ic_progress::{Watching, WipedFirst};
+use ic_streams::StreamFault;
+use ic_text::{Limits, TextFault};
+use std::alloc::Global;
 use std::io::{self, Read, Write};
-use std::sync::Wait;
-use std::thread::Threads;
-
-/// Makes at most so many rounds until no step is possible, a round of many equations by so many workers, and prints the
-/// configuration, the one before a refused round only with `partial`. A stuck pair is told on standard error.
-pub(crate) fn reduce<T: Threads + Wait, R: Read>(
-    rt: &HostRuntime,
-    maker: &Workers<'_, T>,
-    rounds: u64,
-    partial: bool,
-    input: &mut R,
-    notes: &Notes,
-    told: &mut Vec<u8>,
-) -> Result<(), Failure> {
-    let mut output = NotedOutput::new(io::writer(rt), notes);
-    let reduced = reduce_stream(rt.alloc(), maker, rounds, partial, input, &mut output, told);
-    match reduced.map_err(Failure::Stream)? {
-        Reduction::NotDone => Err(Failure::NotDone),
-        Reduction::Refused(refusal) => Err(Failure::Round(refusal)),
-        Reduction::Done { stuck, .. } => {
-            if let Some(pair) = stuck {
-                tell_stuck(rt, &pair);
-            }
-            Ok(())
-        }
-    }
-}
 
 /// Tells on standard error which pair is stuck.
 pub(crate) fn tell_stuck(rt: &HostRuntime, pair: &[u8]) {
@@ -42,26 +21,148 @@ pub(crate) fn tell_stuck(rt: &HostRuntime, pair: &[u8]) {
     }
 }
 
-/// Prints what each of at most so many rounds does, up to the first one that is refused.
+/// Tells on standard error at which symbol a circle is closed.
+pub(crate) fn tell_circle(rt: &HostRuntime, symbol: &[u8]) {
+    if let Ok(line) = circle_line(rt.alloc(), symbol) {
+        let _ = rt.stderr().write_all(&line);
+    }
+}
+
+/// What is wanted of a trace.
+#[derive(Clone, Copy)]
+pub(crate) struct Wanted {
+    /// How the rounds are told.
+    pub(crate) format: TraceFormat,
+    /// Whether it is told what all of them did.
+    pub(crate) is_summed: bool,
+}
+
+/// Prints what each round does, as it is over, up to the first one that a bound or a limit breaks off. What all of them did is
+/// told on standard error, if that is wanted.
 pub(crate) fn trace<R: Read>(
     rt: &HostRuntime,
-    rounds: u64,
-    format: TraceFormat,
+    limits: Limits,
+    bounds: RoundBounds,
+    wanted: Wanted,
     input: &mut R,
     notes: &Notes,
     told: &mut Vec<u8>,
 ) -> Result<(), Failure> {
-    let mut output = NotedOutput::new(io::writer(rt), notes);
-    let format = match format {
+    let format = match wanted.format {
         TraceFormat::Tsv => Format::Table,
         TraceFormat::Svg => Format::Picture,
         TraceFormat::Json => Format::Objects,
     };
-    let traced = trace_stream(rt.alloc(), rounds, format, input, &mut output, told);
-    match traced.map_err(Failure::Stream)? {
-        Ended::Whole => Ok(()),
-        Ended::Refused(refusal) => Err(Failure::Round(refusal)),
+    let watching = Watching::new(rt);
+    let mut output = WipedFirst::watching(&watching, NotedOutput::new(io::writer(rt), notes));
+    let traced = trace_stream(
+        rt.alloc(),
+        limits,
+        bounds,
+        format,
+        &watching,
+        input,
+        &mut output,
+        told,
+    );
+    watching.wipe();
+    let traced = traced.map_err(Failure::Stream)?;
+    if wanted.is_summed {
+        tell_summary(rt, traced.summary, format);
     }
+    trace_ending(&traced, bounds.nodes)
+}
+
+/// Tells on standard error what all rounds did.
+fn tell_summary(rt: &HostRuntime, summary: Summary, format: Format) {
+    let told = match format {
+        Format::Objects => summary_object(rt.alloc(), summary),
+        Format::Table | Format::Picture => summary_line(rt.alloc(), summary),
+    };
+    if let Ok(told) = told {
+        let _ = rt.stderr().write_all(&told);
+    }
+}
+
+/// How the program ends: a trace of as many rounds as were asked for is whole.
+fn trace_ending(traced: &Traced, nodes: u64) -> Result<(), Failure> {
+    match traced.reached.outcome.end {
+        End::Quiet | End::Steps => Ok(()),
+        end => reduce_ending(
+            end,
+            reached_of(&traced.reached.outcome, Some(traced.reached.rounds)),
+            nodes,
+        ),
+    }
+}
+
+/// How many names and agents a net has at most while rounds are made of it that is then drawn.
+const DRAWN_NODES: u64 = 134_217_728;
+
+/// Makes at most so many rounds of the system, and prints the net then as a graph.
+pub(crate) fn draw_after<R: Read>(
+    rt: &HostRuntime,
+    rounds: u64,
+    input: &mut R,
+    notes: &Notes,
+    told: &mut Vec<u8>,
+) -> Result<(), Failure> {
+    let bounds = RoundBounds {
+        rounds,
+        nodes: DRAWN_NODES,
+    };
+    let watching = Watching::new(rt);
+    let mut line = Vec::new(rt.alloc());
+    let made = reduce_by_rounds_stream(
+        rt.alloc(),
+        Limits::Wide,
+        bounds,
+        Asked::Answer,
+        &watching,
+        input,
+        &mut line,
+        told,
+    );
+    watching.wipe();
+    let made = made.map_err(of_memory).map_err(Failure::Stream)?;
+    match made.outcome.end {
+        End::Quiet | End::Steps => draw_line(rt, &made, &line, notes, told),
+        end => {
+            let reached = reached_of(&made.outcome, Some(made.rounds));
+            reduce_ending(end, reached, DRAWN_NODES)
+        }
+    }
+}
+
+/// Prints the net of a line as a graph, which so many rounds have come to.
+fn draw_line(
+    rt: &HostRuntime,
+    made: &Rounded,
+    line: &[u8],
+    notes: &Notes,
+    told: &mut Vec<u8>,
+) -> Result<(), Failure> {
+    let mut text = Vec::new(rt.alloc());
+    put_system(rt.alloc(), &made.outcome.rules, line, &mut text)
+        .map_err(of_memory)
+        .map_err(Failure::Stream)?;
+    let mut output = NotedOutput::new(io::writer(rt), notes);
+    let mut unseen = Vec::new(rt.alloc());
+    let mut bytes = text.as_slice();
+    let drawn = draw_stream(rt.alloc(), &mut bytes, &mut output, &mut unseen);
+    if let Err(StreamFault::Text(TextFault::Limit)) = drawn {
+        tell_too_large(rt.alloc(), made.rounds, told).map_err(Failure::Stream)?;
+    }
+    drawn.map_err(Failure::Stream)
+}
+
+/// Appends why a net isn't drawn that so many rounds have come to.
+fn tell_too_large(alloc: Global, rounds: u64, told: &mut Vec<u8>) -> Result<(), StreamFault> {
+    let line = format!(in alloc;
+        "after {rounds} rounds the net, or its rules, pass the limits of what is drawn: icserve help limits\n"
+    )?;
+    told.extend_from_slice(line.as_bytes())?;
+    Ok(())
 }
 
 /// Prints the net of the configuration as a graph.

@@ -15,11 +15,13 @@ mod kept;
 mod looking;
 mod others;
 mod reducing;
+mod renewing;
 mod scripts;
 mod session;
 mod standing;
 mod standstill;
 mod texts;
+mod unbegun;
 
 use crate::answers::Answers;
 use crate::doing::{Doing, do_word, path_of};
@@ -240,15 +242,17 @@ pub(crate) fn book_on<'a>(
     }
 }
 
-/// By how many workers a round is made, and after how many rounds they are kept.
+/// By how many threads rounds of several jobs are made, after how many rounds they are kept, and how many commands are
+/// kept at once.
 #[derive(Clone, Copy)]
 pub(crate) struct Making {
     pub(crate) workers: u32,
     pub(crate) every: u32,
+    pub(crate) group: u32,
 }
 
 impl Making {
-    /// How many workers make a round, one at least.
+    /// How many threads make rounds, one at least.
     pub(crate) fn workers(self) -> usize
         ensures { 1 ≤ result }
     {
@@ -260,6 +264,13 @@ impl Making {
         ensures { 1 ≤ result }
     {
         u64::from(self.every.max(1))
+    }
+
+    /// How many commands are kept at once, one at least.
+    pub(crate) fn group(self) -> usize
+        ensures { 1 ≤ result }
+    {
+        self.group.max(1) as usize
     }
 }
 
@@ -338,6 +349,7 @@ fn serve_over<T: Threads + Wait + Copy + Send + 'static, D: Disk, R: Read, G: Ga
         output,
         making.workers(),
         making.every(),
+        making.group(),
         gate,
     );
     if output.flush().is_err() && served.is_ok() {

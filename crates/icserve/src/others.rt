@@ -14,7 +14,7 @@ const FRONT: u64 = 25;
 
 /// What is said of a file in place of the second one of a reduction.
 const NO_SECOND: &[u8] =
-    b": no `--keep` made this second file: move it away, and write `head -c 17 /dev/zero` in its place\n";
+    b": no `--keep` made this second file: move it away, and resume with `--from-one-file`\n";
 
 /// What a file is that keeps no reduction, and that a keep would write over.
 #[derive(Clone, Copy)]

@@ -1,17 +1,23 @@
-//! The program's word `reduce` where no rounds are asked for: a net reduced in place.
+//! The program's word `reduce`: a net reduced in place, in any order or by rounds.
 
 ghost use Rattle.std.specs.Prelude.{◌≡◌, ◌<◌, ◌≤◌, IfNone, IfSome, max, min};
 
-use crate::looking::tell_stuck;
+use crate::looking::{tell_circle, tell_stuck};
 use ic_args::FiguresFormat;
 use ic_args::table::MAX_STEPS;
 use ic_causes::{NotedOutput, Notes};
+use ic_dump::front_of_system;
 use ic_exits::{Failure, Reached, idle_line, reduce_ending};
-use ic_in_place::{Asked, Bounds, End, Outcome, Watch, reduce_in_place_stream};
+use ic_in_place::{
+    Asked, Bounds, End, Outcome, RoundBounds, Rounded, Watch, reduce_by_rounds_stream,
+    reduce_in_place_stream,
+};
 use ic_progress::{Watching, WipedFirst, figures_lines, figures_object};
-use ic_streams::StreamFault;
+use ic_rules::RuleSet;
+use ic_streams::{StreamFault, write_line};
 use ic_text::Limits;
 use ic_workers::{Policy, reduce_by_workers_stream};
+use std::alloc::Global;
 use std::io::{self, IsTerminal, Read, Write};
 use std::thread::{Threads, available_parallelism};
 use std::time::{Duration, Instant};
@@ -21,6 +27,8 @@ use std::time::{Duration, Instant};
 pub(crate) struct Wanted {
     /// What of it is printed.
     pub(crate) asked: Asked,
+    /// Whether the rules are printed before it.
+    pub(crate) has_rules: bool,
     /// How its figures are told, if they are.
     pub(crate) figures: Option<FiguresFormat>,
     /// How many threads reduce, and how they share it.
@@ -54,8 +62,8 @@ fn processors<T: Threads>(threads: &T) -> u32
 }
 
 /// Reduces the system on standard input in place, within these limits of its text and these bounds, and prints what is
-/// reached, as far as that is wanted. Figures and a stuck pair are told on standard error, and how far a long reduction
-/// has come.
+/// reached, as far as that is wanted. Figures, a stuck pair and a circle are told on standard error, and how far a long
+/// reduction has come.
 pub(crate) fn reduce<T: Threads + Sync, R: Read>(
     rt: &HostRuntime,
     threads: &T,
@@ -69,7 +77,7 @@ pub(crate) fn reduce<T: Threads + Sync, R: Read>(
     let begun = Instant::now(rt).ok();
     let watching = Watching::new(rt);
     let mut output = WipedFirst::watching(&watching, NotedOutput::new(io::writer(rt), notes));
-    let reduced = reduce_over(
+    let reduced = reduce_and_print(
         rt,
         threads,
         limits,
@@ -82,10 +90,112 @@ pub(crate) fn reduce<T: Threads + Sync, R: Read>(
     );
     watching.wipe();
     let outcome = reduced.map_err(Failure::Stream)?;
-    tell_end(rt, &outcome, time_since(rt, begun), wanted, bounds.nodes)
+    let time = time_since(rt, begun);
+    tell_end(rt, &outcome, None, time, wanted, bounds.nodes)
 }
 
-/// The same of any input and to any output: by one thread, or by several.
+/// Makes rounds of the system on standard input, in place, until no step is possible or as many are made as may be, and prints the
+/// net then, as `reduce` does.
+pub(crate) fn reduce_by_rounds<R: Read>(
+    rt: &HostRuntime,
+    limits: Limits,
+    bounds: RoundBounds,
+    wanted: Wanted,
+    input: &mut R,
+    notes: &Notes,
+    told: &mut Vec<u8>,
+) -> Result<(), Failure> {
+    let begun = Instant::now(rt).ok();
+    let watching = Watching::new(rt);
+    let mut output = WipedFirst::watching(&watching, NotedOutput::new(io::writer(rt), notes));
+    let reduced = round_and_print(
+        rt,
+        limits,
+        bounds,
+        wanted,
+        &watching,
+        input,
+        &mut output,
+        told,
+    );
+    watching.wipe();
+    let reached = reduced.map_err(Failure::Stream)?;
+    let time = time_since(rt, begun);
+    let rounds = Some(reached.rounds);
+    tell_end(rt, &reached.outcome, rounds, time, wanted, bounds.nodes)
+}
+
+/// The same of any input and to any output. The rules are known at its end, so what is to stand after them is gathered.
+fn reduce_and_print<T: Threads + Sync, V: Watch, R: Read, W: Write>(
+    rt: &HostRuntime,
+    threads: &T,
+    limits: Limits,
+    bounds: Bounds,
+    wanted: Wanted,
+    watch: &V,
+    input: &mut R,
+    output: &mut W,
+    told: &mut Vec<u8>,
+) -> Result<Outcome, StreamFault> {
+    if !wanted.has_rules {
+        return reduce_over(
+            rt, threads, limits, bounds, wanted, watch, input, output, told,
+        );
+    }
+    let mut line = Vec::new(rt.alloc());
+    let outcome = reduce_over(
+        rt, threads, limits, bounds, wanted, watch, input, &mut line, told,
+    )
+    .map_err(of_memory)?;
+    put_system(rt.alloc(), &outcome.rules, &line, output)?;
+    Ok(outcome)
+}
+
+/// Rounds of any input, and the net after them to any output, with the rules before it if they are wanted.
+fn round_and_print<V: Watch, R: Read, W: Write>(
+    rt: &HostRuntime,
+    limits: Limits,
+    bounds: RoundBounds,
+    wanted: Wanted,
+    watch: &V,
+    input: &mut R,
+    output: &mut W,
+    told: &mut Vec<u8>,
+) -> Result<Rounded, StreamFault> {
+    let (alloc, asked) = (rt.alloc(), wanted.asked);
+    if !wanted.has_rules {
+        return reduce_by_rounds_stream(alloc, limits, bounds, asked, watch, input, output, told);
+    }
+    let mut line = Vec::new(alloc);
+    let reached = reduce_by_rounds_stream(
+        alloc, limits, bounds, asked, watch, input, &mut line, told,
+    ).map_err(of_memory)?;
+    put_system(alloc, &reached.outcome.rules, &line, output)?;
+    Ok(reached)
+}
+
+/// Where a line can't be gathered, memory has run out.
+pub(crate) fn of_memory(fault: StreamFault) -> StreamFault {
+    match fault {
+        StreamFault::Write => StreamFault::Memory,
+        fault => fault,
+    }
+}
+
+/// Writes the line of a configuration, if there is one, with the rules before it: the text of a system.
+pub(crate) fn put_system<W: Write>(
+    alloc: Global,
+    rules: &RuleSet,
+    line: &[u8],
+    output: &mut W,
+) -> Result<(), StreamFault> {
+    if !line.is_empty() {
+        write_line(output, &front_of_system(alloc, rules)?)?;
+    }
+    write_line(output, line)
+}
+
+/// Reduces by one thread, or by several.
 fn reduce_over<T: Threads + Sync, V: Watch, R: Read, W: Write>(
     rt: &HostRuntime,
     threads: &T,
@@ -124,12 +234,13 @@ fn reduce_over<T: Threads + Sync, V: Watch, R: Read, W: Write>(
     )
 }
 
-/// Tells on standard error what is told of a reduction that took so long: figures, as far as they are wanted, and a stuck
-/// pair. A terminal is told if there are rules and none was used. The answer says how it ended, where its net may have so
-/// many places.
+/// Tells on standard error what is told of a reduction that took so long: figures, as far as they are wanted, a stuck pair
+/// and a circle. A terminal is told if there are rules and none was used. The answer says how it ended, where its net may have so
+/// many names and agents.
 pub(crate) fn tell_end(
     rt: &HostRuntime,
     outcome: &Outcome,
+    rounds: Option<u64>,
     time: Duration,
     wanted: Wanted,
     nodes: u64,
@@ -139,20 +250,31 @@ pub(crate) fn tell_end(
     }
     if let Some(pair) = &outcome.stuck {
         tell_stuck(rt, pair);
-    } else if is_idle(outcome) && rt.stderr().is_terminal() {
+    }
+    if let Some(symbol) = &outcome.circle {
+        tell_circle(rt, symbol);
+    }
+    if is_idle(outcome) && rt.stderr().is_terminal() {
         tell_idle(rt);
     }
-    let reached = Reached {
-        interactions: outcome.interactions,
-        places: outcome.places,
-        left: outcome.left,
-    };
-    reduce_ending(outcome.end, reached, nodes)
+    reduce_ending(outcome.end, reached_of(outcome, rounds), nodes)
 }
 
-/// Whether a reduction ended where no step is possible, and used none of its rules.
+/// How far a reduction came.
+pub(crate) fn reached_of(outcome: &Outcome, rounds: Option<u64>) -> Reached {
+    Reached {
+        interactions: outcome.interactions,
+        nodes: outcome.nodes,
+        left: outcome.left,
+        rounds,
+    }
+}
+
+/// Whether a reduction ended where no step is possible, used none of its rules, and has nothing else to tell of that.
 fn is_idle(outcome: &Outcome) -> bool {
-    matches!(outcome.end, End::Quiet) && outcome.interactions == 0 && !outcome.by_rule.is_empty()
+    let has_told = outcome.stuck.is_some() || outcome.circle.is_some();
+    let is_unused = outcome.interactions == 0 && !outcome.by_rule.is_empty();
+    matches!(outcome.end, End::Quiet) && is_unused && !has_told
 }
 
 /// Tells on standard error that no two agents met.

@@ -1,7 +1,7 @@
 //! What standard error is told of jobs that go no further and have come to no result.
 
 use ic_batch::NewJob;
-use ic_by_rounds::stuck_text;
+use ic_by_rounds::{circle_text, stuck_text};
 use ic_inspect::{halt_of, halt_words};
 use ic_jobs::{Job, State, Table};
 use std::alloc::{AllocError, Global};
@@ -10,28 +10,32 @@ use std::io::Write;
 /// What is said of a job that is done with a stuck pair, before the pair.
 const STUCK: &[u8] = b" is done, but stuck: there is no rule for ";
 
+/// What is said of a job that is done with a circle, before the symbol at which it is closed.
+const CIRCLE: &[u8] = b" is done with a circle, which no step takes apart, at ";
+
 /// What is said of a job that is halted, before the cause.
 const HALTED: &[u8] = b" is halted";
 
-/// Tells of each of these jobs that is done with a stuck pair, and of each that is halted.
+/// Tells of each of these jobs that is done with a stuck pair or a circle, and of each that is halted.
 pub(crate) fn tell_of_jobs(rt: &HostRuntime, jobs: &[Job]) {
     for job in jobs {
-        if let Ok(line) = line_of(rt.alloc(), job) {
+        if let Ok(line) = lines_of(rt.alloc(), job) {
             let _ = rt.stderr().write_all(&line);
         }
     }
 }
 
-/// The line of a job, or nothing.
-fn line_of(alloc: Global, job: &Job) -> Result<Vec<u8>, AllocError> {
+/// The lines of a job, or nothing.
+fn lines_of(alloc: Global, job: &Job) -> Result<Vec<u8>, AllocError> {
     let mut line = Vec::new(alloc);
     match job.state() {
         State::Done => {
-            if let Some(pair) = stuck_text(alloc, job.rules().symbols(), job.config())? {
-                put_name(job, &mut line)?;
-                line.extend_from_slice(STUCK)?;
-                line.extend_from_slice(&pair)?;
-                line.push(b'\n')?;
+            let symbols = job.rules().symbols();
+            if let Some(pair) = stuck_text(alloc, symbols, job.config())? {
+                put_done(job, STUCK, &pair, &mut line)?;
+            }
+            if let Some(symbol) = circle_text(alloc, symbols, job.config())? {
+                put_done(job, CIRCLE, &symbol, &mut line)?;
             }
         }
         State::Halted => {
@@ -42,6 +46,15 @@ fn line_of(alloc: Global, job: &Job) -> Result<Vec<u8>, AllocError> {
         State::Running | State::Paused | State::Spent => {}
     }
     Ok(line)
+}
+
+/// Appends the line that says this of a job that is done.
+fn put_done(job: &Job, words: &[u8], what: &[u8], line: &mut Vec<u8>) -> Result<(), AllocError> {
+    put_name(job, line)?;
+    line.extend_from_slice(words)?;
+    line.extend_from_slice(what)?;
+    line.push(b'\n')?;
+    Ok(())
 }
 
 /// Appends which job it is.

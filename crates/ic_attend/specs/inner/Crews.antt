@@ -15,7 +15,7 @@ pub record IsReadyFor (workers : ℕ) (crew : Option CrewParts) : Type 0 where
 
 -- This may be the end of a runner that has this crew.
 abbrev pub EndMayBeWith : Option CrewParts → RunnerEnd → Type 0
-EndMayBeWith crew end = (workers : ℕ) → IsReadyFor workers crew → EndMayBe workers end
+EndMayBeWith crew end = (turns workers : ℕ) → IsReadyFor workers crew → EndMayBe turns workers end
 
 -- Whoever this crew is ready for, that one is too.
 abbrev pub StaysReady : (before after : Option CrewParts) → Type 0

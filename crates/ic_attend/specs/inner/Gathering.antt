@@ -21,10 +21,10 @@ pub record IsReady (clients runners : ℕ) (g : Gathered) : Type 0 where
 
 -- The ends of so many runners, each of which a runner may have, and the run of each script's client.
 -- It is finished, or has an end, where no thread was refused or stopped.
-pub record HasGathered (scripts : List (List Command)) (runners workers : ℕ) (g : Gathered)
-    : Type 0 where
+pub record HasGathered (scripts : List (List Command)) (runners turns workers : ℕ)
+    (g : Gathered) : Type 0 where
   pub ends : length g.ends.items ≡ runners
-  pub may_be : All (EndMayBe workers) g.ends.items
+  pub may_be : All (EndMayBe turns workers) g.ends.items
   pub ends_len : vec_len g.ends ≡ runners
   pub answers_len : vec_len g.answers ≡ length scripts
   pub followed : AllZip Follows scripts g.answers.items

@@ -8,7 +8,7 @@ use Rattle.ic_jobs.specs.declared.reply.Reply.{Reply}
 use Rattle.ic_book.specs.declared.book.Book.{Book}
 use Rattle.ic_book.specs.declared.fault.BookFault.{BookFault}
 use Rattle.ic_book.specs.Book.{disk_of}
-use Rattle.ic_book.specs.Moves.{Move, answers, fails, keeps, stays, stops, round_move, keep_move}
+use Rattle.ic_book.specs.Moves.{Move, answers, fails, takes, stays, stops, round_move, keep_move}
 use Rattle.ic_book.specs.Server.{up, IsCall, Step}
 use Rattle.ic_book.specs.ByCalls.{IsOnMadeDisk, Calls, IsByCalls, IsStoppedWithin}
 
@@ -126,6 +126,9 @@ module _ {D : Type 0} {ghosts : Ghosts D} where
     pub answer_moves : (does : IsCall (answers who command reply) old new) → (by_answer does).moves ≡ answers who command reply ∷ []
     unfolding by_answer one_call
     answer_moves does = refl
+
+    pub by_take : IsCall (takes who command reply) old new → IsByCalls old new
+    by_take does = one_call (takes who command reply) old new does
 
     pub by_failure : IsCall (fails who command reply) old new → IsByCalls old new
     by_failure does = one_call (fails who command reply) old new does

@@ -21,7 +21,7 @@ use Rattle.ic_frames.specs.declared.frames.Frames.{Frames}
 use Rattle.ic_frames.specs.Opened.{IsOnNewest}
 use Rattle.ic_slots.specs.Held.{HoldsTable}
 use Rattle.ic_slots.specs.lemmas.OneTable.{HoldsFormOf-prop}
-use Rattle.ic_book.specs.Kept.{IsHistory, IsOnDisk, MayBeUnkept}
+use Rattle.ic_book.specs.Kept.{IsHistory, IsOnDisk}
 
 Reply-set : IsSet (Option Reply)
 Reply-set = Coded-set (coded_option reply.the_row.coded)
@@ -74,12 +74,9 @@ IsLegal-prop : (t : List JobParts) (es : List Entry) → IsProp (IsLegal t es)
 IsLegal-prop t [] = Unit-prop
 IsLegal-prop t (e ∷ es) = ×_prop (Reply-set _ _) (IsLegal-prop (table_after t e.event) es)
 
-MayBeUnkept-prop : (broken : Bool) (es : List Entry) → IsProp (MayBeUnkept broken es)
-MayBeUnkept-prop broken es = hlevel props
-
 pub IsHistory-prop : (start : List JobParts) (log : List Entry) (table : List JobParts) (kept : ℕ) (broken : Bool)
     → IsProp (IsHistory start log table kept broken)
-IsHistory-prop start log table kept broken = hlevel (IsLegal-prop, MayBeUnkept-prop, IsTable-prop, table-set, props)
+IsHistory-prop start log table kept broken = hlevel (IsLegal-prop, IsTable-prop, table-set, props)
 
 pub HoldsTable-prop : (t : List JobParts) (file : List ℕ) → IsProp (HoldsTable t file)
 HoldsTable-prop t file = hlevel (IsTable-prop, HoldsFormOf-prop, props)

@@ -7,7 +7,8 @@ ghost use Rattle.ic_jobs.specs.declared.reply.Reply.TheVariants as reply;
 ghost use Rattle.ic_jobs.specs.Landing.{Awaits};
 ghost use Rattle.ic_book.specs.Entries.{round_entry};
 ghost use Rattle.ic_book.specs.Book.{log_of, table_of};
-ghost use Rattle.ic_book.specs.Calls.{LeavesKeptOrAll, RefusesRound, TakesRound};
+ghost use Rattle.ic_book.specs.Calls.{RefusesRound, TakesRound};
+ghost use Rattle.ic_book.specs.Crashes.{LeavesKeptOrAll};
 ghost use Rattle.ic_book.specs.Moves.{round_move};
 ghost use Rattle.ic_book.specs.Server.{Step, up};
 

@@ -6,7 +6,8 @@ ghost use Rattle.ic_frames.specs.Fields.{IsMade};
 ghost use Rattle.ic_book.specs.declared.limits.TheConstants.{MAX_ENTRIES};
 ghost use Rattle.ic_book.specs.Entries.{leaves_table};
 ghost use Rattle.ic_book.specs.Book.{start_of, log_of, table_of, kept_of, keeper_of, disk_of, is_broken, number_of};
-ghost use Rattle.ic_book.specs.Calls.{BreaksOrStays, LeavesKeptOrAll, TellsFull};
+ghost use Rattle.ic_book.specs.Calls.{BreaksOrStays, TellsFull};
+ghost use Rattle.ic_book.specs.Crashes.{LeavesKeptOrAll};
 ghost use Rattle.ic_book.specs.Server.{StepsByCommand};
 
 use super::Book;
@@ -64,7 +65,7 @@ impl<D: Disk> Book<D> {
 }
 
 // Whether a reply to a command leaves the table as it is.
-fn leaves_table(answer: &Reply) -> bool
+pub(super) fn leaves_table(answer: &Reply) -> bool
     ensures { result ≡ leaves_table answer.now }
 {
     matches!(

@@ -2,7 +2,8 @@
 
 ghost use Rattle.std.specs.Prelude.{◌≡◌, [], OnOk, OnErr, IsErrOf};
 ghost use Rattle.ic_book.specs.Book.{start_of, log_of, table_of, kept_of};
-ghost use Rattle.ic_book.specs.Calls.{BreaksOrStays, KeepsAll, LeavesKeptOrAll, TellsWorn};
+ghost use Rattle.ic_book.specs.Calls.{BreaksOrStays, KeepsAll, TellsWorn};
+ghost use Rattle.ic_book.specs.Crashes.{LeavesKeptOrAll};
 ghost use Rattle.ic_book.specs.Moves.{keep_move};
 ghost use Rattle.ic_book.specs.Server.{Step, up};
 

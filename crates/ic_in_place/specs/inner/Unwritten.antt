@@ -1,5 +1,5 @@
 -- For private functions: what is read back and isn't numbered anew, and what is told of it.
-use Rattle.std.specs.Prelude.{◌≡◌, ◌⊎◌, ℕ, ◌+◌, ◌*◌, List, IsTrue, length}
+use Rattle.std.specs.Prelude.{◌≡◌, ℕ, ◌+◌, ◌*◌, List, IsTrue, length}
 use Rattle.std.specs.List.{list_all}
 use Rattle.std.specs.Arc.{arc_value}
 use Rattle.std.specs.Option.{option_map}
@@ -11,16 +11,9 @@ use Rattle.ic_flat.specs.Words.{forest, is_word_over, IsWhole}
 use Rattle.ic_flat.specs.Flat.{configuration_of}
 use Rattle.ic_naming.specs.Naming.{renumbered}
 use Rattle.ic_in_place.specs.Counting.{TellsNameSteps}
-use Rattle.ic_reaching.specs.OneNet.{OneNet}
-use Rattle.ic_reaching.specs.Reaching.{Reaches}
-use Rattle.ic_machine.specs.Net.{Net, equations_left, pieces}
-use Rattle.ic_meaning.specs.Nets.{net_of}
-use Rattle.ic_in_place.specs.Stopping.{HasCome}
-use Rattle.ic_in_place.specs.Reducing.{HasEnds, HasPlaces, IsComeTo, IsReachedBy, StopsAt}
+use Rattle.ic_in_place.specs.Reducing.{IsReached}
 use Rattle.ic_in_place.specs.Reductions.{stuck_at}
 use Rattle.ic_in_place.specs.declared.running.Bounds.{Bounds}
-use Rattle.ic_in_place.specs.declared.running.End.{End}
-use Rattle.ic_in_place.specs.declared.running.End.TheVariants.{Quiet, Steps}
 use Rattle.ic_in_place.specs.declared.stream.Outcome.{Outcome}
 
 -- Words write a configuration up to its names: numbered anew, both are the same. So many of their terms are in its interface,
@@ -35,31 +28,9 @@ pub record WritesAlike (symbols : List Symbol) (words : List Word) (terms equati
 -- An outcome tells of a configuration that is reached.
 pub record IsTold (s : SystemParts) (bounds : Bounds) (outcome : Outcome) : Type 0 where
   pub answer : Configuration
-  pub reached : IsReachedBy s bounds answer outcome.end outcome.interactions outcome.places
-      outcome.left outcome.by_rule.items
-  pub alone : outcome.shared ≡ 0
+  pub reached : IsReached s bounds answer outcome.end outcome.interactions outcome.by_rule.items
   pub name_steps : TellsNameSteps s.rules.rules s.config outcome.interactions
       (length answer.equations) outcome.end outcome.name_steps
   pub stuck : option_map (λ text. text.items) outcome.stuck
       ≡ stuck_at outcome.end s.rules.symbols answer
   pub rules : arc_value outcome.rules ≡ s.rules
-
--- The same, by however many threads.
-pub record IsToldOf (s : SystemParts) (bounds : Bounds) (outcome : Outcome) : Type 0 where
-  pub answer : Configuration
-  pub reached : IsComeTo s bounds answer outcome.end outcome.interactions outcome.left
-      outcome.by_rule.items
-  pub places : HasPlaces s bounds answer outcome.end outcome.places outcome.left outcome.shared reached.fired
-  pub name_steps : TellsNameSteps s.rules.rules s.config outcome.interactions
-      (length answer.equations) outcome.end outcome.name_steps
-  pub stuck : option_map (λ text. text.items) outcome.stuck
-      ≡ stuck_at outcome.end s.rules.symbols answer
-  pub rules : arc_value outcome.rules ≡ s.rules
-
--- A machine that has stopped was read back: it holds one net with an answer, which is reached by the same rules.
-pub record ReadsAs (s : SystemParts) (bounds : Bounds) (given by_rule : List ℕ) (m : Net) (end : End) (places shared : ℕ)
-    (come : HasCome s bounds given by_rule m end places shared) (answer : Configuration) : Type 0 where
-  pub net : OneNet (net_of come.held.numbers m.interface (pieces m)) answer
-  pub reached : Reaches s.rules.rules s.config answer come.fired
-  pub ended : StopsAt s.rules.rules bounds answer m.interactions end
-  pub ends : (end ≡ Quiet) ⊎ (end ≡ Steps) → HasEnds answer (equations_left m)

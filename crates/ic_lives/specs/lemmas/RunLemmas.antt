@@ -15,10 +15,10 @@ use Rattle.ic_slots.specs.Held.{Held, HoldsTable, IsHeld, the_table, no_slot, tw
 use Rattle.ic_slots.specs.Opening.{Says}
 use Rattle.ic_book.specs.declared.book.Book.{Book}
 use Rattle.ic_book.specs.Book.{start_of, log_of, table_of, kept_of, disk_of}
-use Rattle.ic_book.specs.Calls.{LeavesKeptOrAll}
+use Rattle.ic_book.specs.Crashes.{LeavesKeptOrAll}
+use Rattle.ic_book.specs.Left.{HoldsKeptOrAll}
 use Rattle.ic_book.specs.Entries.{command_entry, round_entry}
-use Rattle.ic_book.specs.Kept.{HoldsKeptOrAll}
-use Rattle.ic_book.specs.Moves.{Move, opens, refuses, answers, fails, rounds, keeps, stays, closes, stops, brings}
+use Rattle.ic_book.specs.Moves.{Move, opens, refuses, answers, fails, takes, rounds, keeps, stays, closes, stops, brings}
 use Rattle.ic_book.specs.Server.{Server, down, up, disk_in, GoesOn, StaysOnPage, TurnsPage, MakesOfPage, IsCall, Opens, Refuses, Closes, IsFound, Step, Runs, Reaches}
 use Rattle.ic_book.specs.lemmas.Facts.{history_of}
 use Rattle.ic_lives.specs.Past.{Past, nothing, Next, Leads, IsPast}
@@ -108,6 +108,7 @@ MayBeStopped opens = Unit {0}
 MayBeStopped (refuses cause) = Unit {0}
 MayBeStopped (answers who command reply) = Unit {0}
 MayBeStopped (fails who command reply) = Unit {0}
+MayBeStopped (takes who command reply) = Unit {0}
 MayBeStopped (rounds name reply) = Unit {0}
 MayBeStopped keeps = Unit {0}
 MayBeStopped stays = Unit {0}
@@ -187,6 +188,7 @@ module _ {D : Type 0} {ghosts : Ghosts D} where
     pub legal_moved : (move : Move) (past : Past) (old new : Book D ghosts) (is : IsUp past old) → MakesOfPage move old new → IsLegal [] (past.entries ++ brings move)
     legal_moved (answers who command reply) past old new is page = legal_brought past old new is (command_entry who command reply ∷ []) page.0.start page.0.adds.entry
     legal_moved (fails who command reply) past old new is page = legal_brought past old new is (command_entry who command reply ∷ []) page.0.start page.0.adds.entry
+    legal_moved (takes who command reply) past old new is page = legal_brought past old new is (command_entry who command reply ∷ []) page.0.start page.0.adds.entry
     legal_moved (rounds name reply) past old new is page = legal_brought past old new is (round_entry name reply ∷ []) page.0.start page.0.adds.entry
     legal_moved keeps past old new is page = legal_same past old is
     legal_moved stays past old new is page = legal_same past old is
@@ -268,6 +270,8 @@ module _ {D : Type 0} {ghosts : Ghosts D} where
       grows (answers who command reply) past old new is e (length (past.entries ++ e ∷ [])) call.page.0 call.crash (refl, refl) (omega (arith, long, call.page.1))
   does replays joins (fails who command reply) past old new is call =
       grows (fails who command reply) past old new is (command_entry who command reply) past.lasting call.page.0 call.crash (refl, refl) (omega (arith, is.enough, call.page.1))
+  does replays joins (takes who command reply) past old new is call =
+      grows (takes who command reply) past old new is (command_entry who command reply) past.lasting call.page.0 call.crash (refl, refl) (omega (arith, is.enough, call.page.1))
   does replays joins (rounds name reply) past old new is call =
       grows (rounds name reply) past old new is (round_entry name reply) past.lasting call.page.0 call.crash (refl, refl) (omega (arith, is.enough, call.page.1))
   does replays joins keeps past old new is call = keeps_all replays joins past old new is call

@@ -11,6 +11,7 @@ use Rattle.ic_machine.specs.declared.tables.Tables.{Tables}
 use Rattle.ic_machine.specs.Plan.{Made, Planned, Plans, IsPlan, constants, number_of, pieces_made}
 use Rattle.ic_machine.specs.Net.{equated_of, in_use}
 use Rattle.ic_machine.specs.Runs.{Way}
+use Rattle.ic_machine.specs.Generations.{FiresPair}
 use Rattle.ic_machine.specs.Steps.{AreFresh, Steps}
 use Rattle.ic_machine.specs.inner.Firing.{heaps_pieces, arities_of, table, HasBlocks, HasRoom}
 
@@ -76,6 +77,10 @@ pub record IsMade (p : Planned) (old new : Tables) : Type 0 where
   pub fresh : (rest : List Equation) → AreFresh (names ++ made) (held old (map equated_of rest))
   pub steps : (q : Plans) (rest : List Piece) → Steps q []
       (pieces_made p (old.registers.items ++ (names ++ made)) names made ++ held old rest) (held new rest)
+  pub bare : (q : Plans) (rest : List Piece) (more : List Equation) → new.pending.items ≡ old.pending.items ++ more → Steps q []
+      (pieces_made p (old.registers.items ++ (names ++ made)) names made
+      ++ (names_pieces 0 old.names.entries ++ (heaps_pieces 0 old.heaps.items ++ rest)))
+      (names_pieces 0 new.names.entries ++ (heaps_pieces 0 new.heaps.items ++ (map equated_of more ++ rest)))
   pub places : (kind : ℕ) (rest : List Equation) → size_at kind new
       ≡ max (size_at kind old) (in_use kind
       (pieces_made p (old.registers.items ++ (names ++ made)) names made ++ held old (map equated_of rest)))
@@ -85,8 +90,19 @@ pub record IsNumbered (p : Plans) (i : ℕ) (left right : ℕ) (plan : Planned) 
   pub number : number_of p left right ≡ Some i
   pub has_plan : slice_get p.plans i ≡ Some plan
 
--- A pair fires by this plan, and what it makes is linked. There are as many places as before, or as are in use as it has fired.
-pub record FiresBy (p : Plans) (fired : ℕ) (old new : Tables) (rest : List Equation) : Type 0 where
+-- This pair fires by the plan with this number, beside what is at places and other equations, and what it makes is linked. More
+-- pairs come of it.
+pub record FiresBeside (p : Plans) (e : Equation) (fired : ℕ) (old new : Tables) (more others : List Equation) : Type 0 where
+  pub middle : List Piece
+  pub pair : FiresPair p e fired
+      (equated_of e ∷ (names_pieces 0 old.names.entries ++ (heaps_pieces 0 old.heaps.items ++ map equated_of others))) middle
+  pub links : Steps p [] middle (names_pieces 0 new.names.entries
+      ++ (heaps_pieces 0 new.heaps.items ++ (map equated_of more ++ map equated_of others)))
+
+-- This pair fires by this plan, and what it makes is linked. There are as many places as before, or as are in use as it has fired.
+pub record FiresBy (p : Plans) (e : Equation) (fired : ℕ) (old new : Tables) (rest : List Equation) : Type 0 where
   pub moment : List Piece
+  pub bare : (front more others : List Equation) → old.pending.items ≡ front ++ e ∷ [] → new.pending.items ≡ front ++ more
+      → FiresBeside p e fired old new more others
   pub way : Way p (fired ∷ []) (moment ∷ []) (held old (map equated_of rest)) (held new (map equated_of rest))
   pub places : (kind : ℕ) → size_at kind new ≡ max (size_at kind old) (in_use kind moment)

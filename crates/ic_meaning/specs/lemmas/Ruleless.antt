@@ -9,7 +9,6 @@ use Rattle.ic_rules.specs.Rule.{Rule}
 use Rattle.ic_rules.specs.RuleSet.{Rules, IsRuleSet, rule_for, StandsTurned}
 use Rattle.ic_rules.specs.lemmas.FitLaws.{rule_over_at}
 use Rattle.ic_rules.specs.lemmas.FindLaws.{rule_for-found}
-use Rattle.ic_arena.specs.Word.{count}
 use Rattle.ic_machine.specs.Plan.{Planned, Plans, number_of, plan_at, plan_of}
 use Rattle.ic_meaning.specs.Plans.{IsPlanOf, IsOfRule, ArePlansOf}
 

@@ -11,7 +11,7 @@ use Rattle.ic_frames.specs.Fields.{IsMade}
 use Rattle.ic_slots.specs.Held.{HoldsTable}
 use Rattle.ic_book.specs.declared.book.Book.{Book}
 use Rattle.ic_book.specs.Book.{start_of, log_of, table_of, kept_of, disk_of}
-use Rattle.ic_book.specs.Kept.{HoldsKeptOrAll}
+use Rattle.ic_book.specs.Left.{HoldsKeptOrAll}
 use Rattle.ic_book.specs.ByCalls.{IsByCalls}
 use Rattle.ic_book.specs.lemmas.Chains.{by_calls_then}
 use Rattle.ic_serving.specs.Booked.{last_kept}

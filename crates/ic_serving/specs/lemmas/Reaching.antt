@@ -11,7 +11,7 @@ use Rattle.ic_lines.specs.Answers.{Reading, events}
 use Rattle.ic_lines.specs.Serving.{IsServed}
 use Rattle.ic_book.specs.declared.book.Book.{Book}
 use Rattle.ic_book.specs.Book.{IsUnchanged}
-use Rattle.ic_book.specs.Kept.{table_kept}
+use Rattle.ic_book.specs.Left.{table_kept}
 use Rattle.ic_serving.specs.Answered.{IsKeptFor}
 use Rattle.ic_serving.specs.Booked.{IsAllKept}
 use Rattle.ic_serving.specs.Parts.{IsInLine, IsInFirst}
@@ -53,7 +53,7 @@ reached_now law t ls = record {
 }
 
 -- more lines come
-longer : SomeWay → (between u : List JobParts) (rest more : List (List ℕ)) → IsInFirst between rest u → IsInFirst between (rest ++ more) u
+pub longer : SomeWay → (between u : List JobParts) (rest more : List (List ℕ)) → IsInFirst between rest u → IsInFirst between (rest ++ more) u
 longer law between u [] more here = subst (IsInFirst between more) (sym here) (in_first law between more)
 longer law between u (line ∷ rest) more here = here
 

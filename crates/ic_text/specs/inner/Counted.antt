@@ -1,58 +1,53 @@
--- For private functions: the word with which too many are written.
-use Rattle.std.specs.Prelude.{◌≡◌, ℕ, zero, suc, ◌+◌, ◌*◌, ◌<◌, ◌≤◌, ◌==◌, List, [], ◌∷◌, Bool, true, false, not, Option, None, Some, length, take, nat_lt, if◌then◌else◌}
+-- For private functions: whether too much is written.
+use Rattle.std.specs.Prelude.{◌≡◌, ℕ, zero, suc, ◌+◌, ◌-◌, ◌*◌, List, [], ◌∷◌, Bool, true, false, not, ◌&&◌, Option, None, Some, length, nat_le, nat_lt, if◌then◌else◌}
+use Rattle.ic_rules.specs.declared.limits.TheConstants.{MAX_RULE_NODES}
 use Rattle.ic_term.specs.Symbol.{Symbol}
-use Rattle.ic_text.specs.declared.misread.Limit.{Limit}
 use Rattle.ic_text.specs.declared.excess.Excess.{Excess}
+use Rattle.ic_text.specs.declared.limits.Limits.{Limits}
+use Rattle.ic_text.specs.declared.limits.Limits.TheVariants.{Served, Wide}
+use Rattle.ic_text.specs.Limits.{most_interface, most_nodes, most_rules}
+use Rattle.ic_text.specs.Source.{Phrase, phrase_nodes}
 use Rattle.ic_text.specs.SystemSource.{SystemPhrase}
-use Rattle.ic_text.specs.Words.{rules_prefix, system_prefix}
-use Rattle.ic_text.specs.WordFaults.{IsFirstWord, due_after, rank}
+use Rattle.ic_text.specs.SystemSense.{rules_are_small}
+use Rattle.ic_text.specs.inner.Words.{rules_prefix, system_prefix}
 
--- which of two words comes first, if there is one
-abbrev pub earlier : Option Excess → Option Excess → Option Excess
-earlier None other = other
-earlier (Some first) None = Some first
-earlier (Some first) (Some second) =
-    if nat_lt second.word first.word then Some second else Some first
+-- no limit is passed
+abbrev pub is_kept : Option Excess → Bool
+is_kept None = true
+is_kept (Some excess) = false
 
--- the limit that is passed with a word, if one is
-abbrev pub limit_at : Option Excess → ℕ → Option Limit
-limit_at None k = None
-limit_at (Some excess) k = if excess.word == k then Some excess.limit else None
+-- How many terms are due after a word in prefix notation, if so many were due before it: none in front
+-- of a term that no other one holds.
+abbrev pub due_after : ℕ → ℕ → ℕ
+due_after zero arity = arity
+due_after (suc due) arity = due + arity
 
--- how many terms are due after words
-abbrev pub due_over : ℕ → List Symbol → ℕ
-due_over due [] = due
-due_over due (w ∷ ws) = due_over (due_after due w.arity) ws
+-- In words of rules no rule has too many nodes. So many terms are due in front of them, the agent before
+-- them is the second one of a rule or its first, and the rule has so many nodes so far.
+abbrev pub each_keeps : ℕ → Bool → ℕ → List Symbol → Bool
+each_keeps due second nodes [] = true
+each_keeps zero second nodes (w ∷ ws) =
+    each_keeps w.arity (not second) (if second then 0 else nodes) ws
+each_keeps (suc due) second nodes (w ∷ ws) =
+    nat_lt nodes MAX_RULE_NODES && each_keeps (due + w.arity) second (nodes + 1) ws
 
--- whether the last agent of words is a rule's second one, where the one before them is this
-abbrev pub side_over : ℕ → Bool → List Symbol → Bool
-side_over due second [] = second
-side_over zero second (w ∷ ws) = side_over w.arity (not second) ws
-side_over (suc due) second (w ∷ ws) = side_over (due + w.arity) second ws
+-- words of rules with so many agents as their sides have few nodes
+abbrev pub rule_nodes_keep : Limits → ℕ → List Symbol → Bool
+rule_nodes_keep Served agents ws = nat_le (length ws - agents) MAX_RULE_NODES
+rule_nodes_keep Wide agents ws = each_keeps 0 true 0 ws
 
--- and how many nodes its rule has so far
-abbrev pub nodes_over : ℕ → Bool → ℕ → List Symbol → ℕ
-nodes_over due second nodes [] = nodes
-nodes_over zero second nodes (w ∷ ws) =
-    nodes_over w.arity (not second) (if second then 0 else nodes) ws
-nodes_over (suc due) second nodes (w ∷ ws) = nodes_over (due + w.arity) second (nodes + 1) ws
+-- rules are neither too many nor too long
+abbrev pub rules_fit : Limits → SystemPhrase → Bool
+rules_fit limits s =
+    nat_le (length s.rules) (most_rules limits) && rules_are_small limits s.rules
 
--- the first word with which words fail a test, if there is one, and the limit that it stands for
-abbrev pub IsExcessTest : (List Symbol → Bool) → Limit → List Symbol → Option Excess → Type 0
-IsExcessTest test limit ws None = (j : ℕ) → test (take j ws) ≡ true
-IsExcessTest test limit ws (Some excess) = IsFirstWord test ws excess.word × (excess.limit ≡ limit)
+-- an interface hasn't too many terms, nor a configuration too many nodes
+abbrev pub config_fits : Limits → Phrase → Bool
+config_fits limits p =
+    nat_le (length p.interface) (most_interface limits) && nat_le (phrase_nodes p) (most_nodes limits)
 
--- the word with which one of several limits is passed, the first of so many words
-pub record IsExcess (keep : Limit → ℕ → Bool) (size : ℕ) (excess : Excess) : Type 0 where
-  pub inside : excess.word < size
-  pub kept : (j : ℕ) → j ≤ excess.word → (b : Limit) → keep b j ≡ true
-  pub passed : keep excess.limit (excess.word + 1) ≡ false
-  pub first : (b : Limit) → rank b < rank excess.limit → keep b (excess.word + 1) ≡ true
-
--- the same, if there is one
-abbrev pub IsFirstExcess : (Limit → ℕ → Bool) → ℕ → Option Excess → Type 0
-IsFirstExcess keep size None = (j : ℕ) (b : Limit) → keep b j ≡ true
-IsFirstExcess keep size (Some excess) = IsExcess keep size excess
+abbrev pub fits : Limits → SystemPhrase → Bool
+fits limits s = rules_fit limits s && config_fits limits s.config
 
 -- these are the words of a system, so many of them its rules', with so many agents as their sides,
 -- and so many terms in its interface

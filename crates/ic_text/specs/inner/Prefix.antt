@@ -1,13 +1,11 @@
 -- For private functions: how words are found in tokens that are scanned from their end.
-use Rattle.std.specs.Prelude.{ℕ, ◌+◌, ◌-◌, ◌==◌, ◌⊎◌, ◌≡◌, ◌<◌, ◌≤◌, List, [], ◌∷◌, Option, None, Some, drop, false, get_or, length, map, reverse, take, if◌then◌else◌}
+use Rattle.std.specs.Prelude.{ℕ, ◌+◌, List, [], ◌∷◌, Option, None, Some, map, reverse}
 use Rattle.ic_term.specs.Symbol.{Symbol}
-use Rattle.ic_text.specs.declared.limits.Limits.{Limits}
 use Rattle.ic_text.specs.declared.token.Mark.{Mark}
 use Rattle.ic_text.specs.declared.token.Mark.TheVariants.{Bar, Comma, Open, Close}
 use Rattle.ic_text.specs.declared.prefix.Node.{Node}
 use Rattle.ic_text.specs.declared.prefix.Scan.{Scan}
-use Rattle.ic_text.specs.Limits.{most_nodes}
-use Rattle.ic_text.specs.Token.{Token, is_word_byte, mark, tokens, word}
+use Rattle.ic_text.specs.Token.{Token, mark, word}
 
 -- What is known of tokens that were scanned from their end: the words, the arguments so far of each
 -- list that is open, those of the list that just opened, and the terms outside all parentheses
@@ -72,54 +70,6 @@ abbrev pub scan_at : Option Mark → Scanned → Scanned
 scan_at None s = s
 scan_at (Some m) s = mark_scan m s
 
--- What is kept of what was scanned: its words except for the last ones, and how many more of those
--- are left out.
-pub record Cut : Type 0 where
-  pub seen : Scanned
-  pub skip : ℕ
-
-abbrev pub cut_from : ℕ → Scanned → Cut
-cut_from skip s = record {
-  seen = record {
-    nodes = take (length s.nodes - skip) s.nodes;
-    counts = s.counts;
-    arity = s.arity;
-    terms = s.terms;
-  };
-  skip = skip - length s.nodes;
-}
-
--- a word that is left out
-abbrev pub scan_passed : Scanned → Scanned
-scan_passed s = record {
-  nodes = s.nodes;
-  counts = s.counts;
-  arity = 0;
-  terms = term_more s.counts s.terms;
-}
-
--- the word that a run makes, and the mark of a byte
-abbrev pub cut_run : List ℕ → Cut → Cut
-cut_run [] c = c
-cut_run (b ∷ bs) c =
-    if c.skip == 0 then record { seen = scan_run (b ∷ bs) c.seen; skip = c.skip }
-    else record { seen = scan_passed c.seen; skip = c.skip - 1 }
-
-abbrev pub cut_at : Option Mark → Cut → Cut
-cut_at o c = record { seen = scan_at o c.seen; skip = c.skip }
-
--- A scan begins at the end of a text, or before a byte of no word, with all that follows it
--- scanned.
-abbrev pub IsBegunAt : List ℕ → (skip place : ℕ) → Cut → Type 0
-IsBegunAt text skip place c =
-    ((place ≡ length text) × (c ≡ cut_from skip (scan [])))
-    ⊎ ((place < length text) × (is_word_byte (get_or text place 0) ≡ false)
-    × ((ts : List Token) → tokens (drop place text) ≡ Some ts → c ≡ cut_from skip (scan ts)))
-
--- so many of the words of a configuration are all of them, or more than one may have
-abbrev pub IsEnough : Limits → ℕ → ℕ → Type 0
-IsEnough limits kept words = (kept ≤ words) × ((kept ≡ words) ⊎ (most_nodes limits < kept))
-
 -- a word without where it lies in memory
 abbrev pub node_of : Node → Symbol
 node_of n = record { text = n.text.now; arity = n.arity }
@@ -135,7 +85,3 @@ scanned s = record {
   arity = s.arity;
   terms = s.terms;
 }
-
--- the same with how many words are still to be left out
-abbrev pub cut_of : Scan → Cut
-cut_of s = record { seen = scanned s; skip = s.skip }

@@ -5,7 +5,7 @@ use Rattle.std.specs.Option.{option_map}
 use Rattle.ic_text.specs.declared.syntax.Part.{Part}
 use Rattle.ic_text.specs.declared.survey.Counts.{Counts}
 use Rattle.ic_text.specs.declared.survey.Progress.{Progress}
-use Rattle.ic_text.specs.Token.{Token, mark_of, tokens_at, tokens, words_among}
+use Rattle.ic_text.specs.Token.{Token, mark_of, tokens_at, words_among}
 use Rattle.ic_text.specs.Reading.{IsSpelling}
 use Rattle.ic_text.specs.inner.Syntax.{step, is_end, at_beginning}
 
@@ -54,10 +54,6 @@ begun part = record { state = at_beginning part; counts = record { words = 0 } }
 -- what a check of a part counts in tokens
 abbrev pub surveyed : Part → Option (List Token) → Option Counts
 surveyed part o = counted (taken_after (Some (begun part)) o)
-
--- a check of a part takes all tokens of a text
-abbrev pub Leads : Part → List ℕ → Type 0
-Leads part text = (p : Progress) × (taken_after (Some (begun part)) (tokens text) ≡ Some p)
 
 -- what was counted, without where a check was refused
 abbrev pub counts_in : Result Counts ℕ → Option Counts

@@ -1,16 +1,16 @@
 -- For private functions: what parts hand on among them, which is no step.
-use Rattle.std.specs.Prelude.{◌≡◌, ◌⊎◌, ℕ, suc, ◌<◌, ◌≤◌, List, [], ◌∷◌, length, sum_by, slice_index_or, IsPermutation}
+use Rattle.std.specs.Prelude.{◌≡◌, ◌⊎◌, ℕ, ◌<◌, List, [], ◌∷◌, length, sum_by, slice_index_or, IsPermutation}
 use Rattle.std.specs.List.{AllByRecursion}
 use Rattle.ic_term.specs.Configuration.{Configuration}
 use Rattle.ic_round.specs.Naming.{HasNames}
 use Rattle.ic_reaching.specs.OneNet.{OneNet}
 use Rattle.ic_machine.specs.Moving.{worth}
-use Rattle.ic_machine.specs.Net.{Net, in_use, pieces, places_of}
+use Rattle.ic_machine.specs.Net.{Net, pieces}
 use Rattle.ic_machine.specs.Plan.{Plans}
 use Rattle.ic_machine.specs.Rooms.{ROOMS}
 use Rattle.ic_machine.specs.Runs.{Ran}
 use Rattle.ic_meaning.specs.Words.{Numbers, AreNumbers}
-use Rattle.ic_meaning.specs.Nets.{net_of, ArePieces, AreNetPieces}
+use Rattle.ic_meaning.specs.Nets.{net_of, AreNetPieces}
 use Rattle.ic_in_place.specs.Holding.{AreGiven}
 use Rattle.ic_workers.specs.Parts.{Part, all_interface, all_pieces, room_of, ArePlaced}
 
@@ -38,13 +38,6 @@ pub record HandsOn (arities : List ℕ) (old new : List Part) : Type 0 where
       × AreNetPieces arities (all_interface arities new) (all_pieces arities more new)
       × OneNet (net_of n (all_interface arities old) (all_pieces arities cuts old))
       (net_of n (all_interface arities new) (all_pieces arities more new))
-
--- No part has more places for agents of a symbol than one had before, or than are in use in one then.
-abbrev pub KeepsRoom : List ℕ → (old new : List Part) → Type 0
-KeepsRoom arities old new = AllByRecursion (λ q. ArePieces arities (pieces q.net)) old → (symbol most : ℕ)
-    → AllByRecursion (λ q. places_of (suc symbol) q.net ≤ most) old
-    → AllByRecursion (λ q. in_use (suc symbol) (pieces q.net) ≤ most) new
-    → AllByRecursion (λ q. places_of (suc symbol) q.net ≤ most) new
 
 -- A part has run by itself: its number and its ends of cuts stay.
 pub record HasWorked (p : Plans) (old new : Part) : Type 0 where
@@ -81,15 +74,13 @@ pub data Come (p : Plans) : List Part → List Part → Type 0 where
   stayed : (qs rs : List Part) → IsPermutation qs rs → Come p qs rs
   ordered : (qs rs ss : List Part) → Come p qs rs → IsPermutation rs ss → Come p qs ss
   worked : (qs rs ss : List Part) → Come p qs rs → HaveWorked p rs ss → Come p qs ss
-  handed : (qs rs ss : List Part) → Come p qs rs → HandsOn p.arities rs ss → KeepsRoom p.arities rs ss
-      → Come p qs ss
+  handed : (qs rs ss : List Part) → Come p qs rs → HandsOn p.arities rs ss → Come p qs ss
   added : (q : Part) (qs rs : List Part) → Come p qs rs → IsBare q → IsNew p.arities q rs
-      → length q.net.counts ≡ length p.plans → ((kind : ℕ) → places_of kind q.net ≡ 0) → Come p qs (q ∷ rs)
+      → length q.net.counts ≡ length p.plans → Come p qs (q ∷ rs)
 
 -- All that one part has went to another one, whatever parts there are beside. The counts went with it.
 abbrev pub Gathers : List ℕ → (from old new : Part) → Type 0
 Gathers arities from old new = (qs : List Part) → HandsOn arities (old ∷ from ∷ qs) (new ∷ qs)
-    × KeepsRoom arities (old ∷ from ∷ qs) (new ∷ qs)
 
 -- A machine has all that parts had, and no end of a cut.
 pub record IsAllOf (p : Plans) (qs : List Part) (m : Net) : Type 0 where

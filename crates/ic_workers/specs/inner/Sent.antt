@@ -13,7 +13,7 @@ use Rattle.ic_machine.specs.Plan.{Plans}
 use Rattle.ic_machine.specs.Steps.{Steps}
 use Rattle.ic_meaning.specs.Nets.{holds}
 use Rattle.ic_meaning.specs.Plans.{rule_number}
-use Rattle.ic_in_place.specs.Holding.{Holds, WereThere}
+use Rattle.ic_in_place.specs.Holding.{Holds}
 use Rattle.ic_workers.specs.Parts.{Part}
 
 -- A part has its number, its interface and its symbols.
@@ -80,8 +80,7 @@ pub record CountsAlso (b a d : Part) : Type 0 where
       ≡ slice_index_or b.net.counts i 0 + slice_index_or a.net.counts i 0
   pub plans : length d.net.counts ≡ length b.net.counts
 
--- A machine holds what is reached from the configuration by the rules of plans that fired, and has counted these. Of each symbol
--- it has no more places than there were agents at once.
+-- A machine holds what is reached from the configuration by the rules of plans that fired, and has counted these.
 pub record HasAll (rs : Rules) (numbers : List ℕ) (p : Plans) (c : Configuration)
     (given : List ℕ) (m : Net) : Type 0 where
   pub fired : List ℕ
@@ -91,5 +90,3 @@ pub record HasAll (rs : Rules) (numbers : List ℕ) (p : Plans) (c : Configurati
   pub counts : (i : ℕ) → i < length p.plans
       → slice_index_or m.counts i 0 ≡ count_by (λ j. j == i) fired
   pub counted : length m.counts ≡ length p.plans
-  pub used : (symbol : ℕ)
-      → WereThere rs c (map (rule_number numbers) fired) symbol (slice_index_or m.agents symbol 0)

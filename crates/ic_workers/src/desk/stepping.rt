@@ -1,11 +1,10 @@
 //! Steps of threads, and what is shared before them.
 
-ghost use Rattle.std.specs.Prelude.{◌≡◌, ℕ, ◌+◌, ◌*◌, ◌/◌, ◌^◌, ◌<◌, ◌≤◌, ◌==◌, ◌++◌, List, [], ◌∷◌, count_by, length, map, max, nat_le, slice_index_or, sum_by, IfOk, OnOk, IsPermutation};
+ghost use Rattle.std.specs.Prelude.{◌≡◌, ℕ, ◌+◌, ◌^◌, ◌<◌, ◌≤◌, ◌++◌, [], ◌∷◌, length, map, IfOk, OnOk, IsPermutation};
 ghost use Rattle.std.specs.List.{AllByRecursion};
 ghost use Rattle.ic_machine.specs.Net.{IsStuck};
 ghost use Rattle.ic_machine.specs.Plan.{ArePlans};
-ghost use Rattle.ic_meaning.specs.Plans.{rule_number, ArePlansOf};
-ghost use Rattle.ic_in_place.specs.Counting.{names_at};
+ghost use Rattle.ic_meaning.specs.Plans.{ArePlansOf};
 ghost use Rattle.ic_in_place.specs.Stopping.{arities_of, HasCome, IsSound};
 ghost use Rattle.ic_workers.specs.inner.HandsOn.{Come, IsAllOf};
 ghost use Rattle.ic_workers.specs.inner.Keeping.{parts_at, parts_in_all, slots_at, whole, AreAt, AreFit, HandWorked, HandsWorked, IsDesk, IsIdle, IsKept, IsReady};
@@ -16,15 +15,10 @@ use crate::kept::Hand;
 use crate::laws::what_parts_come_to_is_reached;
 use crate::policy::Policy;
 use ic_flat::WideSystem;
-use ic_in_place::laws::{
-    a_run_that_goes_on_stops_by_the_bounds_of_all, what_a_machine_holds_is_reached,
-};
-use ic_in_place::{
-    Bounds, Stopped, Watch, begin, names_made, no_counts, run_in_pieces, sum_by_rule,
-};
-use ic_machine::laws::what_a_machine_holds;
+use ic_in_place::laws::a_run_that_goes_on_stops_by_the_bounds_of_all;
+use ic_in_place::{Bounds, Gauge, Stopped, Watch, begin, no_counts, run_in_pieces, sum_by_rule};
 use ic_machine::{Machine, Program};
-use ic_plans::{First, compile, first_plan};
+use ic_plans::{compile, first_plan};
 use std::alloc::{AllocError, Global};
 use std::sync::atomic::AtomicBool;
 use std::thread::{self, Threads};
@@ -32,9 +26,6 @@ use std::time::Clock;
 
 /// Interactions for each worker without which no step is taken.
 const LEAST_LEFT: u64 = 1_000;
-
-/// Interactions that a worker may make in a step however near the bound of places is.
-const LEAST_NEAR: u64 = 4_096;
 
 /// Reduces a system by several threads until an end comes. One thread shares nothing.
 pub fn run_by_workers<R: Threads + Sync, C: Clock + Sync, V: Watch>(
@@ -46,9 +37,8 @@ pub fn run_by_workers<R: Threads + Sync, C: Clock + Sync, V: Watch>(
     bounds: Bounds,
     watch: &V,
 ) -> Result<Stopped, AllocError>
-    ensures come { IfOk result (λ stopped. HasCome system.now bounds stopped.given.items
-        stopped.by_rule.items stopped.machine stopped.end stopped.places stopped.shared) }
-    ensures alone { policy.workers ≤ 1 → IfOk result (λ stopped. stopped.shared ≡ 0) }
+    ensures { IfOk result (λ stopped. HasCome system.now bounds stopped.given.items
+        stopped.by_rule.items stopped.machine stopped.end) }
 {
     let (program, numbers) = compile(alloc, system.rules())?;
     run_compiled(
@@ -72,41 +62,44 @@ fn run_compiled<R: Threads + Sync, C: Clock + Sync, V: Watch>(
     requires sound { ArePlans program.now }
     requires numbers { length numbers.now ≡ length program.now.plans }
     requires plans { ArePlansOf system.now.rules numbers.now program.now }
-    ensures come { IfOk result (λ stopped. HasCome system.now bounds stopped.given.items
-        stopped.by_rule.items stopped.machine stopped.end stopped.places stopped.shared) }
-    ensures alone { policy.workers ≤ 1 → IfOk result (λ stopped. stopped.shared ≡ 0) }
+    ensures { IfOk result (λ stopped. HasCome system.now bounds stopped.given.items
+        stopped.by_rule.items stopped.machine stopped.end) }
 {
     what_parts_come_to_is_reached();
-    what_a_machine_holds_is_reached();
     a_run_that_goes_on_stops_by_the_bounds_of_all();
     systems_are_sound(system);
     let first = first_plan(alloc, system)?;
+    let gauge = Gauge::new(alloc, system, &first, numbers, bounds.nodes)?;
     let machine = begin(alloc, system, program, &first)?;
-    let mut machine = run_parts(rt, clock, alloc, program, machine, policy, bounds, watch)?;
-    what_a_machine_holds(&machine);
-    let few = has_few_names(alloc, system, &first, numbers, &machine)?;
-    if !few {
-        return Err(AllocError);
-    }
+    let mut machine = run_parts(
+        rt,
+        clock,
+        alloc,
+        program,
+        machine,
+        policy,
+        &gauge,
+        bounds.steps,
+        watch,
+    )?;
     let shared = machine.interactions();
-    let left = Bounds {
-        steps: bounds.steps.saturating_sub(shared),
-        nodes: bounds.nodes,
-    };
+    let left = bounds.steps.saturating_sub(shared);
     let mut by_rule = no_counts(alloc, system.rules().rules().len())?;
-    let (end, places) = run_in_pieces(&mut machine, program, left, watch);
+    let end = run_in_pieces(&mut machine, program, &gauge, left, watch);
     sum_by_rule(&mut by_rule, numbers, machine.fired());
+    let nodes = gauge.nodes(&machine);
     Ok(Stopped {
         machine,
         given: first.given,
         by_rule,
-        places,
+        nodes,
         shared,
         end,
     })
 }
 
-/// Has threads run the parts of what a machine has, if there are several threads. It answers a machine that has all parts.
+/// Has threads run the parts of what a machine has, if there are several threads, by so many interactions at most. It answers a
+/// machine that has all parts.
 fn run_parts<R: Threads + Sync, C: Clock + Sync, V: Watch>(
     rt: &R,
     clock: &C,
@@ -114,7 +107,8 @@ fn run_parts<R: Threads + Sync, C: Clock + Sync, V: Watch>(
     program: &Program,
     machine: Machine,
     policy: Policy,
-    bounds: Bounds,
+    gauge: &Gauge,
+    most: u64,
     watch: &V,
 ) -> Result<Machine, AllocError>
     requires fit { AreFit program.now }
@@ -123,33 +117,11 @@ fn run_parts<R: Threads + Sync, C: Clock + Sync, V: Watch>(
     ensures all { IfOk result (IsAllOf program.now (whole machine ∷ [])) }
     ensures kept { IfOk result (λ all. (all.arities ≡ program.now.arities)
         × AllByRecursion (IsStuck program.now) all.aside) }
-    ensures within { IfOk result (λ all. all.interactions ≤ bounds.steps) }
-    ensures alone { policy.workers ≤ 1 → IfOk result (λ all. all.interactions ≡ 0) }
+    ensures within { IfOk result (λ all. all.interactions ≤ most) }
 {
     let mut desk = Desk::new(alloc, machine)?;
-    desk.run_in_parts(rt, clock, alloc, program, policy, bounds, watch)?;
+    desk.run_in_parts(rt, clock, alloc, program, policy, gauge, most, watch)?;
     desk.put_together(alloc)
-}
-
-/// Whether a machine has no more names than the plan of the configuration makes, and the rules that fired have. That it never has
-/// more isn't proved; if it had, nothing of it would be kept.
-fn has_few_names(
-    alloc: Global,
-    system: &WideSystem,
-    first: &First,
-    numbers: &[u32],
-    machine: &Machine,
-) -> Result<bool, AllocError>
-    ensures { IfOk result (λ few. (fired : List ℕ) → AllByRecursion (λ i. i < length numbers.now) fired
-        → ((i : ℕ) → i < length numbers.now
-        → slice_index_or machine.now.counts i 0 ≡ count_by (λ j. j == i) fired)
-        → length fired < 2 ^ 64 → few ≡ nat_le machine.now.names (first.now.plan.names
-        + sum_by (names_at system.now.rules.rules) (map (rule_number numbers.now) fired))) }
-{
-    let rules = system.rules().rules();
-    let mut by_rule = no_counts(alloc, rules.len())?;
-    sum_by_rule(&mut by_rule, numbers, machine.fired());
-    Ok(machine.names() <= names_made(first.plan.names, rules, &by_rule))
 }
 
 /// Systems keep what their rules and their configurations do.
@@ -169,25 +141,26 @@ impl Desk {
         alloc: Global,
         program: &Program,
         policy: Policy,
-        bounds: Bounds,
+        gauge: &Gauge,
+        most: u64,
         watch: &V,
     ) -> Result<(), AllocError>
         requires desk { IsDesk program.now self.old }
         requires some { 1 ≤ length self.old.parts.items }
-        requires within { self.old.made ≤ bounds.steps }
+        requires within { self.old.made ≤ most }
         ensures come { OnOk result
             (Come program.now (parts_at self.old) (parts_at self.new)) }
         ensures desk { OnOk result (IsDesk program.now self.new) }
-        ensures within { OnOk result (self.new.made ≤ bounds.steps) }
-        ensures alone { policy.workers ≤ 1 → self.new.made ≡ self.old.made }
+        ensures within { OnOk result (self.new.made ≤ most) }
     {
         if policy.workers <= 1 {
             return Ok(());
         }
-        let steps = policy.early.min(bounds.steps - self.made);
+        let near = policy.early.min(gauge.room(self.nodes(gauge)));
+        let steps = near.min(most - self.made);
         self.run_alone(clock, alloc, program, 0, steps)?;
-        self.divide(clock, alloc, program, policy, bounds)?;
-        self.take_steps(rt, clock, alloc, program, policy, bounds, watch)
+        self.divide(clock, alloc, program, policy, gauge, most)?;
+        self.take_steps(rt, clock, alloc, program, policy, gauge, most, watch)
     }
 
     /// Makes the first parts, in this thread.
@@ -197,14 +170,15 @@ impl Desk {
         alloc: Global,
         program: &Program,
         policy: Policy,
-        bounds: Bounds,
+        gauge: &Gauge,
+        most: u64,
     ) -> Result<(), AllocError>
         requires desk { IsDesk program.now self.old }
-        requires within { self.old.made ≤ bounds.steps }
+        requires within { self.old.made ≤ most }
         ensures come { OnOk result
             (Come program.now (parts_at self.old) (parts_at self.new)) }
         ensures desk { OnOk result (IsDesk program.now self.new) }
-        ensures within { OnOk result (self.new.made ≤ bounds.steps) }
+        ensures within { OnOk result (self.new.made ≤ most) }
     {
         let mut next = 0;
         for _ in 0..policy.parts.saturating_mul(40) {
@@ -214,13 +188,10 @@ impl Desk {
             let Some(part) = self.next_due(next) else {
                 return Ok(());
             };
-            let Some(room) = bounds.nodes.checked_sub(self.held()) else {
-                return Ok(());
-            };
             next = part + 1;
-            let most = policy.early.max(self.made_by(part) / 4).max(1);
-            let steps = most.min(interactions_within(room, 1));
-            if steps > policy.late || steps > bounds.steps - self.made {
+            let some = policy.early.max(self.made_by(part) / 4).max(1);
+            let steps = some.min(gauge.room(self.nodes(gauge)));
+            if steps == 0 || steps > policy.late || steps > most - self.made {
                 return Ok(());
             }
             let pairs = self.first_pairs(alloc, part, policy)?;
@@ -305,8 +276,8 @@ impl Desk {
         Ok(busy)
     }
 
-    /// Takes steps until nothing is left to do, or that brings too little. Before each of them it is seen whether all parts
-    /// together have more places and equations left than there may be.
+    /// Takes steps until nothing is left to do, or that brings too little. Before each of them it is seen how many names and
+    /// agents all parts have together. A step makes no more interactions than keep to the bound of these.
     fn take_steps<R: Threads + Sync, C: Clock + Sync, V: Watch>(
         &mut self,
         rt: &R,
@@ -314,31 +285,30 @@ impl Desk {
         alloc: Global,
         program: &Program,
         policy: Policy,
-        bounds: Bounds,
+        gauge: &Gauge,
+        most: u64,
         watch: &V,
     ) -> Result<(), AllocError>
         requires desk { IsDesk program.now self.old }
         requires workers { 1 ≤ policy.workers }
-        requires within { self.old.made ≤ bounds.steps }
+        requires within { self.old.made ≤ most }
         ensures come { OnOk result
             (Come program.now (parts_at self.old) (parts_at self.new)) }
         ensures desk { OnOk result (IsDesk program.now self.new) }
-        ensures within { OnOk result (self.new.made ≤ bounds.steps) }
+        ensures within { OnOk result (self.new.made ≤ most) }
     {
         let least = LEAST_LEFT.saturating_mul(policy.workers as u64);
         let mut gain = Gain::from(nanos(clock));
         for _ in 0..1_000_000u64 {
-            let Some(room) = bounds.nodes.checked_sub(self.held()) else {
-                return Ok(());
-            };
+            let nodes = self.nodes(gauge);
             self.feed(alloc, program, policy)?;
             let due = self.due(alloc)?;
-            let left = bounds.steps - self.made;
+            let left = gauge.room(nodes).min(most - self.made);
             if due.is_empty() || left < least || self.has_fault() {
                 return Ok(());
             }
-            let ran = self.take_step(rt, clock, alloc, program, policy, &due, left, room)?;
-            watch.saw(self.made, self.places());
+            watch.saw(self.made, nodes);
+            let ran = self.take_step(rt, clock, alloc, program, policy, &due, left)?;
             gain.count(nanos(clock), ran, policy);
             if !gain.is_enough(policy) {
                 return Ok(());
@@ -347,8 +317,8 @@ impl Desk {
         Ok(())
     }
 
-    /// Deals the parts that are due to hands, has threads run these, and hands on what was told. So many interactions are left,
-    /// and there is room for so many places and equations. Answers how long hands ran.
+    /// Deals the parts that are due to hands, has threads run these, and hands on what was told. All together make so many
+    /// interactions at most. Answers how long hands ran.
     fn take_step<R: Threads + Sync, C: Clock + Sync>(
         &mut self,
         rt: &R,
@@ -358,7 +328,6 @@ impl Desk {
         policy: Policy,
         due: &[Due],
         left: u64,
-        room: u64,
     ) -> Result<Ran, AllocError>
         requires desk { IsDesk program.now self.old }
         requires workers { 1 ≤ policy.workers }
@@ -371,9 +340,7 @@ impl Desk {
         ensures within { OnOk result (self.new.made ≤ self.old.made + left) }
     {
         let count = policy.workers.min(due.len());
-        let most = policy
-            .interactions_after(self.made, due.len())
-            .min(interactions_within(room, count));
+        let most = policy.interactions_after(self.made, due.len());
         let budget = most.min(left / (count as u64).max(1));
         let mut hands = empty_hands(alloc, count, budget)?;
         self.deal(due, &mut hands)?;
@@ -404,14 +371,6 @@ impl Desk {
         }
         Ok(())
     }
-}
-
-/// How many interactions each of so many workers makes in a step at most, where there is room for so many places: all together
-/// make a quarter as many. So a net that grows passes the bound by little.
-fn interactions_within(room: u64, workers: usize) -> u64
-    ensures { result ≡ max (room / 4 / max workers 1) 4096 }
-{
-    (room / 4 / (workers as u64).max(1)).max(LEAST_NEAR)
 }
 
 /// Which of so many hands the part at this place is dealt to: from the first one to the last one, and back again.

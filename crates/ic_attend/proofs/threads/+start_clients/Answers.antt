@@ -22,7 +22,7 @@ returns-clause-gathered g t c =
     record {
       ends = ap (λ v. length v.items) c.add_speech.ensures.ends ∙ rec.ends;
       ends_len = ap vec_len c.add_speech.ensures.ends ∙ rec.ends_len;
-      may_be = subst (λ v. All (EndMayBe c.args.duty.workers) v.items) (sym c.add_speech.ensures.ends) rec.may_be;
+      may_be = subst (λ v. All (EndMayBe c.args.duty.turns c.args.duty.workers) v.items) (sym c.add_speech.ensures.ends) rec.may_be;
       answers_len = c.add_speech.ensures.len ∙ ap (λ n. n + 1) rec.answers_len ∙ sym (ap length all ∙ length_push before script.items);
       followed =
           let said : Follows script.items run = subst (λ (l : List Command). Follows l run) same speaks.follows in

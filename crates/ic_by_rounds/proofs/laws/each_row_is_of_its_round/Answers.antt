@@ -1,4 +1,4 @@
-use Rattle.ic_by_rounds.proofs.Rows.{row_at}
+use Rattle.ic_by_rounds.proofs.RowLemmas.{row_at}
 use Rattle.ic_by_rounds.proofs.laws.each_row_is_of_its_round.Goals as goal
 
 pub returns : goal.returns

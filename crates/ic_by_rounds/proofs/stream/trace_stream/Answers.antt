@@ -1,27 +1,33 @@
-use Rattle.ic_by_rounds.specs.Traces.{TracedAs, Traces}
-use Rattle.ic_by_rounds.proofs.Answered.{refused_of_taken, traced_carried, traces_carried, unread, unwritten_of_taken, written_of_taken}
+use Rattle.ic_by_rounds.proofs.Showing.{wrote}
+use Rattle.ic_by_rounds.proofs.TracedLemmas.{refused, told, unread, untold}
 use Rattle.ic_by_rounds.proofs.stream.trace_stream.Goals as goal
 
-pub returns-in_err-text-clause-answered : goal.returns-in_err-text-clause-answered
-returns-in_err-text-clause-answered g c =
-    unread (Traces c.args.rounds c.args.format) (traces_carried c.args.rounds c.args.format) (TracedAs c.args.rounds c.args.format) (traced_carried c.args.rounds c.args.format)
-    _ _ _ _ _ c.from_residual.ensures.1 c.in_err-text.ensures.sort
+pub returns-in_err-text-clause-traced : goal.returns-in_err-text-clause-traced
+returns-in_err-text-clause-traced g c = unread c.args.limits c.args.bounds.rounds c.args.format _ _ _ _ _ c.from_residual.ensures.1 c.in_err-text.ensures.sort
 
-pub returns-in_err-shown-clause-answered : goal.returns-in_err-shown-clause-answered
-returns-in_err-shown-clause-answered g c =
-    refused_of_taken (Traces c.args.rounds c.args.format) (traces_carried c.args.rounds c.args.format) (TracedAs c.args.rounds c.args.format)
-    (traced_carried c.args.rounds c.args.format) _ _ _ _ _ _ _ c.in_err-shown.field-0.0 c.in_ok-text.ensures.text c.deref.ensures.value c.in_err-shown.ensures.refused
-    c.in_err-shown.ensures.sort.0 c.from_residual-in_err-shown.ensures.1
+pub returns-in_err-reached-clause-traced : goal.returns-in_err-reached-clause-traced
+returns-in_err-reached-clause-traced g c = refused c.args.limits c.args.bounds.rounds c.args.format _ _ _ _ _ _ _ _ c.in_ok-text.ensures.text c.deref.ensures.value
+    c.in_err-reached.ensures.refused c.from_residual-in_err-reached.ensures.1
 
-pub returns-in_err-write_line-clause-answered : goal.returns-in_err-write_line-clause-answered
-returns-in_err-write_line-clause-answered g c =
-    unwritten_of_taken (Traces c.args.rounds c.args.format) (traces_carried c.args.rounds c.args.format) (TracedAs c.args.rounds c.args.format)
-    (traced_carried c.args.rounds c.args.format) _ _ _ _ _ _ _ c.in_err-write_line.field-0.0 c.in_ok-text.ensures.text c.deref.ensures.value
-    (_, (c.in_ok-shown.ended, c.in_ok-shown.ensures.shown), rw c.deref-2.ensures.value at c.in_err-write_line.ensures.cut) c.in_err-write_line.ensures.refused
-    c.from_residual-in_err-write_line.ensures.1
+pub returns-in_err-end-clause-traced : goal.returns-in_err-end-clause-traced
+returns-in_err-end-clause-traced g c = untold c.args.limits c.args.bounds.rounds c.args.format _ _ _ _ _ _ _ c.in_ok-text.ensures.text c.in_err-end.ensures.fails c.from_residual-in_err-end.ensures.1
 
-pub returns-clause-answered : goal.returns-clause-answered
-returns-clause-answered g c =
-    written_of_taken (Traces c.args.rounds c.args.format) (traces_carried c.args.rounds c.args.format) (TracedAs c.args.rounds c.args.format)
-    (traced_carried c.args.rounds c.args.format) c.in_ok-shown.ended _ _ _ _ _ _ _ _ c.in_ok-text.ensures.text c.deref.ensures.value
-    (c.in_ok-shown.ended, c.in_ok-shown.ensures.shown) (_, c.in_ok-shown.ensures.shown) c.deref-2.ensures.value c.in_ok-write_line.ensures.written
+pub returns-clause-traced : goal.returns-clause-traced
+returns-clause-traced g c =
+    let line = c.in_ok-reached.ensures.line in
+    let ends = line.0 in
+    let rs = ends.system.rules.rules in
+    let law = c.what_is_told_of_rounds.ensures in
+    let rounds = c.in_ok-reached.reached.rounds in
+    let fired = law.figures c.args.limits c.args.bounds.rounds _ _ _ c.in_ok-reached.reached ends in
+    let many = law.many c.args.limits c.args.bounds.rounds _ _ _ c.in_ok-reached.reached ends in
+    let rows = wrote rs ends.system.config c.new-tracing.result _ _ _ _ ends.rounded.ends.told line.1 fired c.args.format rounds c.new-tracing.ensures many
+    c.in_ok-end.ensures.all c.in_ok-end.ensures.none in
+    told c.args.limits c.args.bounds.rounds c.args.format _ _ (record { reached = c.in_ok-reached.reached; summary = c.end.new.self.summary }) _ _ _ _ _ c.in_ok-text.ensures.text c.deref.ensures.value ends
+    (record {
+      system = ends.system;
+      reads = ends.reads;
+      rows = rows.rows;
+      numbers = rows.numbers;
+      table = rows.table;
+    })

@@ -28,6 +28,9 @@ returns-clause-stood_for c = refl
 pub returns-clause-unended : goal.returns-clause-unended
 returns-clause-unended c = refl
 
+pub returns-clause-unknown : goal.returns-clause-unknown
+returns-clause-unknown c = refl
+
 pub returns-clause-line : goal.returns-clause-line
 returns-clause-line c = refl
 

@@ -1,4 +1,4 @@
-use Rattle.std.proofs.Common.{◌∙◌, Global, Vec, ℕ, map, sym}
+use Rattle.std.proofs.Common.{◌∙◌, ℕ, sym}
 use Rattle.ic_rules.specs.lemmas.Spared.{one_spare, one_taken}
 use Rattle.ic_text.specs.Name.{name_text}
 use Rattle.ic_expand.specs.Names.{is_among}
@@ -7,7 +7,7 @@ use Rattle.ic_expand.proofs.names.spare_of.Goals.{then-not-branch+in_ok-push, el
 
 pub loop-number-preserved : goal.loop-number-preserved
 loop-number-preserved c =
-    let shorts = map (λ (w : Vec ℕ Global). w.items) c.args.shorts.now.keys in
+    let shorts = c.args.shorts.now in
     let is = λ (k : ℕ). is_among (name_text k) shorts in
     let known = c.in_ok-is_taken.ensures in
     elim c.if-not-branch.branch [

@@ -1,6 +1,6 @@
 use Rattle.ic_streams.specs.lemmas.Reading.{unread}
 use Rattle.ic_expand.specs.Streams.{Expands}
-use Rattle.ic_expand.proofs.Streaming.{refused_of_taken, told_of_taken, written_of_taken}
+use Rattle.ic_expand.proofs.Streaming.{refused_of_taken, written_of_taken}
 use Rattle.ic_expand.proofs.stream.expand_stream.Goals as goal
 
 pub returns-in_err-text-clause-answered : goal.returns-in_err-text-clause-answered
@@ -13,7 +13,3 @@ returns-in_err-out-clause-answered g c = refused_of_taken c.from_residual-in_err
 pub returns-clause-answered : goal.returns-clause-answered
 returns-clause-answered g c = written_of_taken c.write_line.result _ _ _ _ _ _ _ _
     c.in_ok-text.ensures.text c.deref.ensures.value c.in_ok-out.ensures.text c.deref-2.ensures.value c.write_line.ensures.written c.write_line.ensures.cut c.write_line.ensures.refused
-
-pub returns-in_err-out-clause-told : goal.returns-in_err-out-clause-told
-returns-in_err-out-clause-told g c =
-    told_of_taken c.from_residual-in_err-out.result _ _ _ _ _ _ _ c.in_ok-text.ensures.text c.deref.ensures.value c.in_err-out.ensures.told c.from_residual-in_err-out.ensures.1

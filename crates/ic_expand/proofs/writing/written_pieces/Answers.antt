@@ -1,4 +1,4 @@
-use Rattle.std.proofs.Common.{◌≡◌, ◌+◌, ◌++◌, ◌-◌, ◌∙◌, Global, List, None, Vec, ℕ, ap, arith, length, length-append, map, rules, sym}
+use Rattle.std.proofs.Common.{◌≡◌, ◌+◌, ◌++◌, ◌-◌, ◌∙◌, List, None, ℕ, ap, arith, length, length-append, rules, sym}
 use Rattle.ic_expand.specs.Expanding.{piece_text, refusal}
 use Rattle.ic_expand.specs.inner.Sheets.{sheet_in}
 use Rattle.ic_expand.proofs.Steps.{put_more}
@@ -7,7 +7,7 @@ use Rattle.ic_expand.proofs.writing.written_pieces.Goals as goal
 pub loop-rest-preserved : goal.loop-rest-preserved
 loop-rest-preserved c =
     let sheet = sheet_in c.in_ok-sheet.sheet in
-    let earlier = map (λ (w : Vec ℕ Global). w.items) c.loop-rest.earlier.items in
+    let earlier = c.loop-rest.earlier in
     let spot = c.loop-rest.spot in
     let text = c.args.text.now in
     let rest = c.loop-rest.rest.now in

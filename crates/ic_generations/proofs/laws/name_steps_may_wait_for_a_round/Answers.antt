@@ -5,12 +5,14 @@ use Rattle.ic_confluence.specs.lemmas.Equivalence.{Same-sym}
 use Rattle.ic_generations.proofs.Anywhere.{fired_sound}
 use Rattle.ic_generations.proofs.Settling.{steps_keep, steps_fire, joined}
 use Rattle.ic_generations.proofs.ByRule.{steps_rules}
+use Rattle.ic_generations.proofs.Waiting.{settled_beside}
 use Rattle.ic_generations.proofs.laws.name_steps_may_wait_for_a_round.Goals as goal
 
 pub returns : goal.returns
 returns c = record {
   active = λ rs x y steps. steps_keep rs.rules x y steps;
   fired = λ rs x y set over named steps same. steps_fire rs x y set (record { over = over; named = named }) steps same;
+  elsewhere = λ rs ts es rest next end agents steps none inert. settled_beside rs.rules ts es rest next end agents steps none inert;
   rules = λ rs x y steps same. steps_rules rs.rules x y steps same;
   round = λ rs x y set over named steps same.
       let one = fired rs.rules x in

@@ -23,34 +23,34 @@ one_system s t same = cc
 pub returns-clause-net : goal.returns-clause-net
 returns-clause-net c = λ limits bounds asked input line outcome s e kinds is quiet some reads chain still.
     let same : is.system ≡ s = one_system is.system s (c.one_system_reading.ensures.answer limits input (Ok is.system) (Ok s) is.reads reads) in
-    let reached = subst (λ (x : End). IsReached is.system bounds is.answer x outcome.interactions outcome.places) quiet is.reached.reached in
+    let reached = subst (λ (x : End). IsReached is.system bounds is.ends.answer x outcome.interactions outcome.by_rule.items) quiet is.ends.reached in
     let every : Chain is.system.rules.rules kinds is.system.config e → IsQuiet is.system.rules.rules e
-    → (line ≡ line_of is.system.rules.symbols (renumbered is.answer)) × OneNet is.answer e × (length (rules_fired kinds) ≡ outcome.interactions) =
+    → (line ≡ line_of is.system.rules.symbols (renumbered is.ends.answer)) × OneNet is.ends.answer e × (length (rules_fired kinds) ≡ outcome.interactions) =
     (λ chain still.
-    let order = c.a_quiet_end_is_that_of_every_order.ensures.every_order is.system bounds is.answer e outcome.interactions outcome.places kinds
-    is.rule_set is.over is.names reached chain still in
-    (is.prints ∙ ap (λ (x : End). line_reached asked x is.system.rules.symbols is.answer) quiet ∙ asked_for asked some _, order.0, order.1)) in
+    let order = c.a_quiet_end_is_that_of_every_order.ensures.every_order is.system bounds is.ends.answer e outcome.interactions outcome.by_rule.items kinds
+    is.ends.rule_set is.ends.over is.ends.names reached chain still in
+    (is.ends.prints ∙ ap (λ (x : End). line_reached asked x is.system.rules.symbols is.ends.answer) quiet ∙ asked_for asked some _, order.0, order.1)) in
     let all = subst (λ (t : SystemParts). Chain t.rules.rules kinds t.config e → IsQuiet t.rules.rules e
-    → (line ≡ line_of t.rules.symbols (renumbered is.answer)) × OneNet is.answer e × (length (rules_fired kinds) ≡ outcome.interactions)) same every chain still in
-    (is.answer, all.0, all.1, all.2)
+    → (line ≡ line_of t.rules.symbols (renumbered is.ends.answer)) × OneNet is.ends.answer e × (length (rules_fired kinds) ≡ outcome.interactions)) same every chain still in
+    (is.ends.answer, all.0, all.1, all.2)
 
 pub returns-clause-written : goal.returns-clause-written
 returns-clause-written c = λ limits bounds asked input line outcome s e kinds is quiet some reads chain still.
     let same : is.system ≡ s = one_system is.system s (c.one_system_reading.ensures.answer limits input (Ok is.system) (Ok s) is.reads reads) in
-    let reached = subst (λ (x : End). IsReached is.system bounds is.answer x outcome.interactions outcome.places) quiet is.reached.reached in
-    let written : Configuration = renumbered is.answer in
+    let reached = subst (λ (x : End). IsReached is.system bounds is.ends.answer x outcome.interactions outcome.by_rule.items) quiet is.ends.reached in
+    let written : Configuration = renumbered is.ends.answer in
     let printed : line ≡ line_of is.system.rules.symbols written =
-    is.prints ∙ ap (λ (x : End). line_reached asked x is.system.rules.symbols is.answer) quiet ∙ asked_for asked some _ in
-    let free = c.free_names_stay.ensures.reached is.system.rules is.system.config is.answer reached.fired is.rule_set is.over is.names reached.reached in
-    let low = (λ (x : ℕ) (once : occurrences x (configuration_names is.answer) ≡ 1).
+    is.ends.prints ∙ ap (λ (x : End). line_reached asked x is.system.rules.symbols is.ends.answer) quiet ∙ asked_for asked some _ in
+    let free = c.free_names_stay.ensures.reached is.system.rules is.system.config is.ends.answer reached.fired is.ends.rule_set is.ends.over is.ends.names reached.reached in
+    let low = (λ (x : ℕ) (once : occurrences x (configuration_names is.ends.answer) ≡ 1).
     low_name limits input is.system is.reads x (omega (arith, (free x).1 once))) in
-    let numbered : SameButNext is.answer written = c.a_renumbered_net_is_the_same_net.ensures.same is.answer low in
+    let numbered : SameButNext is.ends.answer written = c.a_renumbered_net_is_the_same_net.ensures.same is.ends.answer low in
     let every : Chain is.system.rules.rules kinds is.system.config e → IsQuiet is.system.rules.rules e
     → (line ≡ line_of is.system.rules.symbols written) × SameButNext written e =
     (λ chain still.
-    let net = (c.what_is_reached_quiet_is_the_end_of_every_order.ensures.every_order is.system.rules is.system.config is.answer e reached.fired kinds
-    is.rule_set is.over is.names reached.reached reached.ended.0 chain still).0 in
-    (printed, c.where_names_begin_is_no_matter.ensures.through written is.answer e (c.where_names_begin_is_no_matter.ensures.other_way is.answer written numbered) net)) in
+    let net = (c.what_is_reached_quiet_is_the_end_of_every_order.ensures.every_order is.system.rules is.system.config is.ends.answer e reached.fired kinds
+    is.ends.rule_set is.ends.over is.ends.names reached.reached reached.ended.0 chain still).0 in
+    (printed, c.where_names_begin_is_no_matter.ensures.through written is.ends.answer e (c.where_names_begin_is_no_matter.ensures.other_way is.ends.answer written numbered) net)) in
     let all = subst (λ (t : SystemParts). Chain t.rules.rules kinds t.config e → IsQuiet t.rules.rules e
     → (line ≡ line_of t.rules.symbols written) × SameButNext written e) same every chain still in
     (written, all.0, all.1)
@@ -58,32 +58,32 @@ returns-clause-written c = λ limits bounds asked input line outcome s e kinds i
 pub returns-clause-text : goal.returns-clause-text
 returns-clause-text c = λ limits bounds asked input line outcome s e kinds is quiet some reads chain still bare.
     let same : is.system ≡ s = one_system is.system s (c.one_system_reading.ensures.answer limits input (Ok is.system) (Ok s) is.reads reads) in
-    let reached = subst (λ (x : End). IsReached is.system bounds is.answer x outcome.interactions outcome.places) quiet is.reached.reached in
-    let printed : line ≡ line_of is.system.rules.symbols (renumbered is.answer) =
-    is.prints ∙ ap (λ (x : End). line_reached asked x is.system.rules.symbols is.answer) quiet ∙ asked_for asked some _ in
+    let reached = subst (λ (x : End). IsReached is.system bounds is.ends.answer x outcome.interactions outcome.by_rule.items) quiet is.ends.reached in
+    let printed : line ≡ line_of is.system.rules.symbols (renumbered is.ends.answer) =
+    is.ends.prints ∙ ap (λ (x : End). line_reached asked x is.system.rules.symbols is.ends.answer) quiet ∙ asked_for asked some _ in
     let every : Chain is.system.rules.rules kinds is.system.config e → IsQuiet is.system.rules.rules e → line ≡ line_of is.system.rules.symbols (renumbered e) =
     (λ chain still.
-    let net = (c.what_is_reached_quiet_is_the_end_of_every_order.ensures.every_order is.system.rules is.system.config is.answer e reached.fired kinds
-    is.rule_set is.over is.names reached.reached reached.ended.0 chain still).0 in
-    let many = c.where_names_begin_is_all_that_differs.ensures.equations is.answer e net in
-    let none : is.answer.equations ≡ [] = nothing_left is.answer.equations (sym many ∙ ap (length {A = Pair}) bare) in
-    let one = c.without_equations_every_order_has_one_text.ensures is.system bounds is.answer e outcome.interactions outcome.places kinds
-    is.rule_set is.over is.names reached none chain still in
+    let net = (c.what_is_reached_quiet_is_the_end_of_every_order.ensures.every_order is.system.rules is.system.config is.ends.answer e reached.fired kinds
+    is.ends.rule_set is.ends.over is.ends.names reached.reached reached.ended.0 chain still).0 in
+    let many = c.where_names_begin_is_all_that_differs.ensures.equations is.ends.answer e net in
+    let none : is.ends.answer.equations ≡ [] = nothing_left is.ends.answer.equations (sym many ∙ ap (length {A = Pair}) bare) in
+    let one = c.without_equations_every_order_has_one_text.ensures is.system bounds is.ends.answer e outcome.interactions outcome.by_rule.items kinds
+    is.ends.rule_set is.ends.over is.ends.names reached none chain still in
     printed ∙ ap (line_of is.system.rules.symbols) one) in
     subst (λ (t : SystemParts). Chain t.rules.rules kinds t.config e → IsQuiet t.rules.rules e → line ≡ line_of t.rules.symbols (renumbered e)) same every chain still
 
 pub returns-clause-counted : goal.returns-clause-counted
 returns-clause-counted c = λ limits bounds asked input line outcome s e kinds is quiet reads chain still.
     let same : is.system ≡ s = one_system is.system s (c.one_system_reading.ensures.answer limits input (Ok is.system) (Ok s) is.reads reads) in
-    let reached = subst (λ (x : End). IsReached is.system bounds is.answer x outcome.interactions outcome.places) quiet is.reached.reached in
+    let reached = subst (λ (x : End). IsReached is.system bounds is.ends.answer x outcome.interactions outcome.by_rule.items) quiet is.ends.reached in
     let every : Chain is.system.rules.rules kinds is.system.config e → IsQuiet is.system.rules.rules e → length (rules_fired kinds) ≡ outcome.interactions =
-    (λ chain still. (c.a_quiet_end_is_that_of_every_order.ensures.every_order is.system bounds is.answer e outcome.interactions outcome.places kinds
-    is.rule_set is.over is.names reached chain still).1) in
+    (λ chain still. (c.a_quiet_end_is_that_of_every_order.ensures.every_order is.system bounds is.ends.answer e outcome.interactions outcome.by_rule.items kinds
+    is.ends.rule_set is.ends.over is.ends.names reached chain still).1) in
     subst (λ (t : SystemParts). Chain t.rules.rules kinds t.config e → IsQuiet t.rules.rules e → length (rules_fired kinds) ≡ outcome.interactions) same every chain still
 
 pub returns-clause-rounds : goal.returns-clause-rounds
 returns-clause-rounds c = λ limits bounds asked input line outcome s is quiet reads.
     let same : is.system ≡ s = one_system is.system s (c.one_system_reading.ensures.answer limits input (Ok is.system) (Ok s) is.reads reads) in
-    let reached = subst (λ (x : End). IsReached is.system bounds is.answer x outcome.interactions outcome.places) quiet is.reached.reached in
-    let some = c.a_quiet_end_is_that_of_every_order.ensures.some_rounds is.system bounds is.answer outcome.interactions outcome.places is.rule_set is.over is.names reached in
+    let reached = subst (λ (x : End). IsReached is.system bounds is.ends.answer x outcome.interactions outcome.by_rule.items) quiet is.ends.reached in
+    let some = c.a_quiet_end_is_that_of_every_order.ensures.some_rounds is.system bounds is.ends.answer outcome.interactions outcome.by_rule.items is.ends.rule_set is.ends.over is.ends.names reached in
     subst (λ (t : SystemParts). (n : ℕ) × IsQuiet t.rules.rules (iterate t.rules.rules n t.config)) same some

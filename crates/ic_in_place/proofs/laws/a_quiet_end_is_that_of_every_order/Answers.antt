@@ -11,14 +11,14 @@ returns-clause-every_order c =
       chain = c.what_is_reached_goes_on.ensures.chain;
       every_order = c.what_is_reached_quiet_is_the_end_of_every_order.ensures.every_order;
     } in
-    λ s bounds answer e interactions places kinds set over named is chain still.
+    λ s bounds answer e interactions by_rule kinds set over named is chain still.
     let so = every_order_so laws s.rules s.config answer e is.fired kinds set over named is.reached is.ended.0 chain still in
     (so.0, so.1 ∙ sym is.counted)
 
 pub returns-clause-rounds : goal.returns-clause-rounds
-returns-clause-rounds c = λ s bounds answer interactions places n set over named is still.
+returns-clause-rounds c = λ s bounds answer interactions n by_rule set over named is still.
     c.what_is_reached_quiet_is_the_end_of_every_order.ensures.rounds s.rules n s.config answer is.fired set over named is.reached is.ended.0 still
 
 pub returns-clause-some_rounds : goal.returns-clause-some_rounds
-returns-clause-some_rounds c = λ s bounds answer interactions places set over named is.
+returns-clause-some_rounds c = λ s bounds answer interactions by_rule set over named is.
     c.what_is_reached_quiet_is_the_end_of_every_order.ensures.some_rounds s.rules s.config answer is.fired set over named is.reached is.ended.0

@@ -1,4 +1,4 @@
-use Rattle.ic_in_place.proofs.Holding.{HeldLaws, held_so, used_so, ends_so}
+use Rattle.ic_in_place.proofs.Holding.{HeldLaws, held_so, ends_so}
 use Rattle.ic_in_place.proofs.laws.what_a_machine_holds_is_reached.Goals.{After-what_is_reached_is_one_net}
 use Rattle.ic_in_place.proofs.laws.what_a_machine_holds_is_reached.Goals as goal
 
@@ -17,9 +17,6 @@ laws c = record {
 
 pub returns-clause-reached : goal.returns-clause-reached
 returns-clause-reached c = held_so (laws c)
-
-pub returns-clause-used : goal.returns-clause-used
-returns-clause-used c = used_so (laws c)
 
 pub returns-clause-ends : goal.returns-clause-ends
 returns-clause-ends c = ends_so (laws c)

@@ -1,9 +1,12 @@
-use Rattle.std.proofs.Common.{[], ◌∷◌, ◌++◌, refl, arith}
+use Rattle.std.proofs.Common.{[], ◌∷◌, ◌++◌, arith}
 use Rattle.std.proofs.lemmas.List.{length-append}
 use Rattle.ic_in_place.proofs.laws.what_a_stop_says.Goals as goal
 
+pub returns-clause-within : goal.returns-clause-within
+returns-clause-within c = λ s bounds answer end interactions by_rule is. is.within
+
 pub returns-clause-steps : goal.returns-clause-steps
-returns-clause-steps c = λ s bounds answer interactions places set over named is.
+returns-clause-steps c = λ s bounds answer interactions by_rule set over named is.
     let next = is.ended.1 in
     let rule = next.2.active.rule in
     let many = length-append is.fired (rule ∷ []) in (
@@ -14,8 +17,7 @@ returns-clause-steps c = λ s bounds answer interactions places set over named i
     )
 
 pub returns-clause-nodes : goal.returns-clause-nodes
-returns-clause-nodes c = λ s bounds answer interactions places is.
-    let over = is.over refl in (omega (arith, over, is.held.all), is.ended.0, is.ended.1)
+returns-clause-nodes c = λ s bounds answer interactions by_rule is. is.ended
 
 pub returns-clause-limit : goal.returns-clause-limit
-returns-clause-limit c = λ s bounds answer interactions places is. is.ended
+returns-clause-limit c = λ s bounds answer interactions by_rule is. is.ended

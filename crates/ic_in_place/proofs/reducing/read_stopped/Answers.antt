@@ -12,4 +12,5 @@ returns-clause-read c = λ bounds come.
       read.2,
       read.3,
       numbered_so c.args.system.now.rules.symbols _ _ _ _ read.0 words read.4,
+      read.5,
     )

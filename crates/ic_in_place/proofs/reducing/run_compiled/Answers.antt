@@ -2,17 +2,11 @@ use Rattle.std.proofs.Common.{rules, ◌≡◌, ◌<◌, ◌^◌, ℕ, List, len
 use Rattle.ic_rules.specs.RuleSet.{Rules}
 use Rattle.ic_machine.specs.Plan.{planned}
 use Rattle.ic_in_place.specs.Summing.{IsSummed}
-use Rattle.ic_in_place.proofs.Stopping.{StopLaws, stopped_so}
+use Rattle.ic_in_place.proofs.Stopping.{stopped_so}
 use Rattle.ic_in_place.proofs.reducing.run_compiled.Goals as goal
 
 pub returns : goal.returns
 returns g c =
-    let laws : StopLaws = record {
-      reached = c.what_a_machine_holds_is_reached.ensures.reached;
-      used = c.what_a_machine_holds_is_reached.ensures.used;
-      begun = c.places_are_those_that_were_in_use.ensures.begun;
-      names = c.places_are_made_by_plans.ensures.names;
-    } in
     let p = c.args.program.now in
     let numbers = c.args.numbers.now in
     let first = c.in_ok-first.first in
@@ -24,8 +18,8 @@ returns g c =
     subst (λ (n : ℕ). IsSummed n numbers run.new.machine.counts by_rule) counted
     (subst (λ (cs : List ℕ). IsSummed (length c.in_ok-by_rule.by_rule.items) numbers cs by_rule) c.fired.ensures c.sum_by_rule.ensures) in
     let low : run.new.machine.interactions < 2 ^ 64 = search rules in
-    stopped_so laws c.args.system.now c.args.bounds numbers p first.given.items (planned first.plan) first.interface.items c.in_ok-machine.machine run.new.machine
-    run.result.0 run.result.1 c.systems_are_sound.ensures
+    stopped_so c.what_a_machine_holds_is_reached.ensures.reached c.args.system.now c.args.bounds numbers p first.given.items (planned first.plan) first.interface.items
+    c.in_ok-machine.machine run.new.machine run.result c.systems_are_sound.ensures
     c.requires.arities c.requires.sound c.requires.plans
-    c.in_ok-first.ensures.start c.in_ok-first.ensures.stands c.in_ok-first.ensures.given c.in_ok-machine.ensures run.ensures.ends
-    run.ensures.nodes run.ensures.looked run.ensures.count run.ensures.enough run.ensures.places run.ensures.pairs run.ensures.watched by_rule summed c.requires.numbers low
+    c.in_ok-first.ensures.start c.in_ok-first.ensures.stands c.in_ok-first.ensures.given c.in_ok-machine.ensures run.ensures.ran run.ensures.ends
+    run.ensures.pairs by_rule summed c.requires.numbers low

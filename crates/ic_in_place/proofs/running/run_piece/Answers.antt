@@ -9,6 +9,4 @@ returns-in-Err-Limit-clause-ended c = record {
   more = λ is. cc;
   early = λ is. cc;
   limited = λ is. c.in-Err-Limit.ensures.early (ap Err c.in-Err-Limit.field-0-is);
-  full = λ is. c.in-Err-Limit.ensures.limit (ap Err c.in-Err-Limit.field-0-is);
-  left = λ is. cc;
 }

@@ -1,4 +1,6 @@
-use Rattle.std.proofs.Common.{inl, inr, refl, arith}
+use Rattle.std.proofs.Common.{◌++◌, refl}
+use Rattle.std.proofs.lemmas.List.Sorted.{IsPermutation-refl}
+use Rattle.ic_machine.specs.Steps.{no_step}
 use Rattle.ic_in_place.proofs.Onward.{ran_nothing}
 use Rattle.ic_in_place.proofs.running.sweep_if_due.Goals as goal
 
@@ -8,14 +10,6 @@ returns-then-names_in_use-due-clause-ran c = λ p. ran_nothing p c.args.machine.
 pub returns-then-names_in_use-due-clause-same : goal.returns-then-names_in_use-due-clause-same
 returns-then-names_in_use-due-clause-same c = refl
 
-pub returns-then-names_in_use-due-clause-tidy : goal.returns-then-names_in_use-due-clause-tidy
-returns-then-names_in_use-due-clause-tidy c = inl (omega (arith, c.names_in_use.ensures.count, c.if-names_in_use-due.true), refl)
-
-pub returns-clause-tidy : goal.returns-clause-tidy
-returns-clause-tidy c = inr (c.sweep.ensures.through, c.names_until_sweep.ensures)
-
-pub returns-then-names_in_use-due-clause-places : goal.returns-then-names_in_use-due-clause-places
-returns-then-names_in_use-due-clause-places c = λ all. all
-
-pub returns-clause-places : goal.returns-clause-places
-returns-clause-places c = λ all. c.sweep.ensures.places
+pub returns-then-names_in_use-due-clause-steps : goal.returns-then-names_in_use-due-clause-steps
+returns-then-names_in_use-due-clause-steps c = λ p rest. no_step (c.args.machine.now.places ++ rest) (c.args.machine.now.places ++ rest)
+    (IsPermutation-refl (c.args.machine.now.places ++ rest))

@@ -14,22 +14,23 @@ asked_for Nothing some line = absurd (some refl)
 
 pub returns-clause-cut : goal.returns-clause-cut
 returns-clause-cut c = λ limits bounds asked input line outcome is cut some.
-    let ended = subst (λ (x : End). EndsBy is.system.rules.rules bounds is.answer outcome.interactions x) cut is.reached.reached.ended in (
+    let told = is.ends in
+    let ended = subst (λ (x : End). EndsBy is.system.rules.rules bounds told.answer outcome.interactions x) cut told.reached.ended in (
       is.system,
-      is.answer,
-      is.reached.reached.fired,
+      told.answer,
+      told.reached.fired,
       is.reads,
-      is.reached.reached.reached,
-      sym is.reached.reached.counted ∙ ended.0,
+      told.reached.reached,
+      sym told.reached.counted ∙ ended.0,
       ended.2,
-      is.prints ∙ ap (λ (x : End). line_reached asked x is.system.rules.symbols is.answer) cut ∙ asked_for asked some _,
+      told.prints ∙ ap (λ (x : End). line_reached asked x is.system.rules.symbols told.answer) cut ∙ asked_for asked some _,
     )
 
 pub returns-clause-nothing : goal.returns-clause-nothing
-returns-clause-nothing c = λ limits bounds input line outcome is. is.prints
+returns-clause-nothing c = λ limits bounds input line outcome is. is.ends.prints
 
 unwritten : (b : Bool) (line : List ℕ) → b ≡ false → cond b line [] ≡ []
 unwritten b line e = ap (λ (x : Bool). cond x line []) e
 
 pub returns-clause-unwritten : goal.returns-clause-unwritten
-returns-clause-unwritten c = λ limits bounds asked input line outcome is e. is.prints ∙ unwritten (is_written asked outcome.end) _ e
+returns-clause-unwritten c = λ limits bounds asked input line outcome is e. is.ends.prints ∙ unwritten (is_written asked outcome.end) _ e

@@ -6,12 +6,13 @@ use Rattle.ic_in_place_laws.proofs.laws.a_stuck_pair_is_of_a_quiet_end.Goals as 
 
 pub returns : goal.returns
 returns c = λ limits bounds asked input line outcome is quiet.
-    let ended = subst (λ (x : End). EndsBy is.system.rules.rules bounds is.answer outcome.interactions x) quiet is.reached.reached.ended in (
+    let told = is.ends in
+    let ended = subst (λ (x : End). EndsBy is.system.rules.rules bounds told.answer outcome.interactions x) quiet told.reached.ended in (
       is.system,
-      is.answer,
-      is.reached.reached.fired,
+      told.answer,
+      told.reached.fired,
       is.reads,
-      is.reached.reached.reached,
+      told.reached.reached,
       ended.0,
-      is.stuck ∙ ap (λ (x : End). stuck_at x is.system.rules.symbols is.answer) quiet,
+      told.stuck ∙ ap (λ (x : End). stuck_at x is.system.rules.symbols told.answer) quiet,
     )

@@ -6,12 +6,7 @@ use Rattle.ic_reaching.specs.Reaching.{rules_fired}
 use Rattle.ic_naming.specs.Naming.{renumbered}
 use Rattle.ic_streams.specs.Streams.{line_of}
 use Rattle.ic_text.specs.declared.fault.TextFault.{TextFault}
-use Rattle.ic_text.specs.declared.limits.Limits.{Limits}
-use Rattle.ic_in_place.specs.declared.running.Bounds.{Bounds}
-use Rattle.ic_in_place.specs.declared.stream.Asked.{Asked}
-use Rattle.ic_in_place.specs.declared.stream.Outcome.{Outcome}
-use Rattle.ic_in_place.specs.Reductions.{EndsAs}
-use Rattle.ic_in_place_laws.specs.Outcomes.{AreOf}
+use Rattle.ic_in_place.specs.Reductions.{EndsOf}
 use Rattle.ic_in_place_laws.proofs.laws.what_is_told_is_of_the_text.Goals as goal
 
 pub returns-clause-quiet : goal.returns-clause-quiet
@@ -28,34 +23,24 @@ returns-clause-written c = λ limits bounds asked input line outcome s e kinds t
 one_system : (s t : SystemParts) → ◌≡◌ {A = Result SystemParts TextFault} (Ok s) (Ok t) → s ≡ t
 one_system s t same = cc
 
--- what an end says of its own system
-of_its_own : (limits : Limits) (bounds : Bounds) (asked : Asked) (input line : List ℕ) (outcome : Outcome) → (is : EndsAs limits bounds asked input outcome line)
-    → AreOf is.system bounds asked outcome line
-of_its_own limits bounds asked input line outcome is = record {
-  rule_set = is.rule_set;
-  over = is.over;
-  names = is.names;
-  answer = is.answer;
-  reached = is.reached;
-  alone = is.alone;
-  name_steps = is.name_steps;
-  together = is.together;
-  prints = is.prints;
-  stuck = is.stuck;
-  rules = is.rules;
-}
-
 pub returns-clause-ends : goal.returns-clause-ends
 returns-clause-ends c = λ limits bounds asked input line outcome s is reads.
-    subst (λ (t : SystemParts). AreOf t bounds asked outcome line)
-    (one_system is.system s (c.one_system_reading.ensures.answer limits input (Ok is.system) (Ok s) is.reads reads))
-    (of_its_own limits bounds asked input line outcome is)
+    subst (λ (t : SystemParts). EndsOf t bounds asked outcome line)
+    (one_system is.system s (c.one_system_reading.ensures.answer limits input (Ok is.system) (Ok s) is.reads reads)) is.ends
 
 pub returns-clause-told : goal.returns-clause-told
 returns-clause-told c = λ limits bounds asked input outcome s old new tells reads. (
   tells.0,
-  subst (λ (t : SystemParts). AreOf t bounds asked outcome tells.0)
+  subst (λ (t : SystemParts). EndsOf t bounds asked outcome tells.0)
       (one_system tells.1.system s (c.one_system_reading.ensures.answer limits input (Ok tells.1.system) (Ok s) tells.1.reads reads))
-      (of_its_own limits bounds asked input tells.0 outcome tells.1),
+      tells.1.ends,
   tells.2,
+)
+
+pub returns-clause-line : goal.returns-clause-line
+returns-clause-line c = λ limits bounds asked input line s answers reads. (
+  answers.0,
+  subst (λ (t : SystemParts). EndsOf t bounds asked answers.0 line)
+      (one_system answers.1.system s (c.one_system_reading.ensures.answer limits input (Ok answers.1.system) (Ok s) answers.1.reads reads))
+      answers.1.ends,
 )

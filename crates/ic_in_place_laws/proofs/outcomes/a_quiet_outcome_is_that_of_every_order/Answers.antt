@@ -7,9 +7,9 @@ use Rattle.ic_in_place_laws.proofs.outcomes.a_quiet_outcome_is_that_of_every_ord
 
 pub returns-clause-net : goal.returns-clause-net
 returns-clause-net c = λ s bounds asked outcome line e kinds is quiet chain still.
-    c.a_quiet_end_is_that_of_every_order.ensures.every_order s bounds is.answer e outcome.interactions outcome.places kinds
+    c.a_quiet_end_is_that_of_every_order.ensures.every_order s bounds is.answer e outcome.interactions outcome.by_rule.items kinds
     is.rule_set is.over is.names
-    (subst (λ (x : End). IsReached s bounds is.answer x outcome.interactions outcome.places) quiet is.reached.reached)
+    (subst (λ (x : End). IsReached s bounds is.answer x outcome.interactions outcome.by_rule.items) quiet is.reached)
     chain still
 
 pub returns-clause-name_steps : goal.returns-clause-name_steps

@@ -1,13 +1,10 @@
 use Rattle.std.proofs.Common.{◌≡◌, ◌∙◌, ℕ, List, [], ◌∷◌, Option, None, Some, true, false, refl, sym, arith}
-use Rattle.std.specs.Fmt.{digits}
 use Rattle.std.proofs.lemmas.Bool.{false≢true}
 use Rattle.ic_frames.specs.Fields.{number, size, is_open, is_whole}
-use Rattle.ic_frames.specs.declared.slot.Slot.TheVariants.{First, Second}
-use Rattle.ic_inspect.specs.declared.inspecting.Layout.TheVariants.{Objects, Words}
+use Rattle.ic_frames.specs.declared.slot.Slot.TheVariants.{First}
 use Rattle.ic_inspect.specs.declared.seen.Body.{Body}
 use Rattle.ic_inspect.specs.declared.seen.Body.TheVariants.{TooLong, CutShort, NoTable, Holds}
 use Rattle.ic_inspect.specs.declared.seen.Seen.{Seen}
-use Rattle.ic_inspect.specs.Inspecting.{told_as}
 use Rattle.ic_inspect.specs.Seeing.{IsBodySeen, IsSeen}
 use Rattle.ic_inspect.proofs.laws.files_by_hand.Goals as goal
 
@@ -49,26 +46,8 @@ first_seen (Some seen) is =
     let s : seen.body ≡ CutShort = is_cut seen.body is.body_is in
     λ i. Some (record { opened = p i; number = q i; size = r i; body = s i })
 
-second_seen : (seen : Option Seen) → IsSeen Second seen file → seen ≡ None
-second_seen None short = refl
-second_seen (Some seen) is = absurd (let within = is.within in omega (arith, within))
-
 pub returns-clause-cut_short : goal.returns-clause-cut_short
 returns-clause-cut_short c = first_seen
-
-pub returns-clause-words : goal.returns-clause-words
-unfolding digits
-returns-clause-words c = λ lines is.
-    let one : is.first ≡ seen_first = first_seen is.first is.first_seen in
-    let two : is.second ≡ None = second_seen is.second is.second_seen in
-    is.told ∙ (λ i. told_as Words (one i) (two i))
-
-pub returns-clause-objects : goal.returns-clause-objects
-unfolding digits
-returns-clause-objects c = λ lines is.
-    let one : is.first ≡ seen_first = first_seen is.first is.first_seen in
-    let two : is.second ≡ None = second_seen is.second is.second_seen in
-    is.told ∙ (λ i. told_as Objects (one i) (two i))
 
 -- ---- a body that is too long
 abbrev other : List ℕ

@@ -1,4 +1,3 @@
-use Rattle.std.proofs.Common.{refl}
 use Rattle.ic_inspect.proofs.HaltLemmas.{movable_told, names_out_told, nodes_told, others_told, rounds_told}
 use Rattle.ic_inspect.proofs.laws.halts_are_told_with_their_cause.Goals as goal
 
@@ -9,8 +8,4 @@ returns c = record {
   names = names_out_told;
   can_move = movable_told;
   others = others_told;
-  rounds_line = refl;
-  overgrown_line = refl;
-  names_line = refl;
-  none_line = refl;
 }

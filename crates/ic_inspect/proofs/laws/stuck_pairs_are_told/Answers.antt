@@ -1,4 +1,4 @@
-use Rattle.std.proofs.Common.{◌∙◌, refl}
+use Rattle.std.proofs.Common.{◌∙◌}
 use Rattle.ic_inspect.proofs.StuckLemmas.{done_told, others_silent, pair_told}
 use Rattle.ic_inspect.proofs.laws.stuck_pairs_are_told.Goals as goal
 
@@ -8,8 +8,4 @@ returns c = record {
   told = pair_told;
   none = λ j done all. done_told j done ∙ (c.stuck_pairs_have_no_rule.ensures.none j.rules.symbols j.config).1 all;
   others = others_silent;
-  line = λ pair. refl;
-  none_line = refl;
-  field = λ pair. refl;
-  none_field = refl;
 }

@@ -7,13 +7,5 @@ returns c =
     let seen = file_seen c.a_slot_is_open_or_whole.ensures.whole in
     record {
       one_file = is_one;
-      seen = seen;
-      lines = λ layout file lines is. record {
-        first = is.first;
-        second = is.second;
-        first_seen = seen First is.first file is.first_seen;
-        second_seen = seen Second is.second file is.second_seen;
-        told = is.told;
-      };
-      told = λ layout file lines is. (is.first, is.second, is.first_seen, is.second_seen, is.told);
+      looked = λ looked file is. (seen First looked.first file is.0, seen Second looked.second file is.1);
     }

@@ -5,9 +5,6 @@ use Rattle.ic_rules.specs.RuleSet.{Rules}
 use Rattle.ic_flat.specs.Flat.{configuration_of}
 use Rattle.ic_text.specs.SystemText.{ReadsSystemWithin}
 use Rattle.ic_text.specs.declared.limits.Limits.TheVariants.{Wide}
-use Rattle.ic_text.specs.lemmas.PlacedWithin.{placed-within}
-use Rattle.ic_text.specs.SystemSource.{IsSystemPhrase, system_words}
-use Rattle.ic_text.specs.Words.{written_system}
 use Rattle.ic_keeping.specs.Way.{IsOnWay}
 use Rattle.ic_keeping.proofs.LowNames.{low_begun}
 use Rattle.ic_keeping.proofs.WayLemmas.{begun_on_way}
@@ -41,12 +38,8 @@ returns-clause-read c =
         goes_on = refl;
         millis = refl;
       },
+      record { same = c.into_parts-rules.ensures.rules; sound = c.systems_are_sound.ensures.sound },
     )
-
-pub returns-in_err-system-clause-place : goal.returns-in_err-system-clause-place
-returns-in_err-system-clause-place c =
-    let e = err_from_is_err_and c.from_residual.result c.from_residual.ensures.1 in
-    rw (e.1, e.2) (placed-within Wide IsSystemPhrase system_words written_system c.args.text.now _ _ _ c.in_err-system.ensures.placed)
 
 pub returns-in_err-system-clause-refused : goal.returns-in_err-system-clause-refused
 returns-in_err-system-clause-refused c =

@@ -3,7 +3,7 @@ use Rattle.std.specs.Arc.{arc_value}
 use Rattle.ic_rules.specs.System.{SystemParts}
 use Rattle.ic_state.specs.State.{IsKept, kept_by}
 use Rattle.ic_keeping.specs.inner.Pieces.{ComesTogether, IsWritten}
-use Rattle.ic_keeping.specs.Way.{IsReachedFrom, IsStateOf}
+use Rattle.ic_keeping.specs.Way.{AreRulesOf, IsReachedFrom, IsStateOf}
 use Rattle.ic_keeping.proofs.GoingLemmas.{HasKept}
 use Rattle.ic_keeping.proofs.Refusing.{WereReady}
 use Rattle.ic_keeping.proofs.going.go_on.Given as goal
@@ -15,10 +15,10 @@ invariant-loop-pieces g l = record {
   each : l.pieces + l.fn.state.interactions ≤ l.state.interactions;
   most : l.state.interactions ≤ max l.fn.bounds.steps l.fn.state.interactions;
   millis : l.fn.state.millis ≤ l.state.millis;
-  sound : (l.keeper ≡ l.fn.keeper) ⊎ IsWritten (arc_value l.rules).symbols l.state.words.items l.state.terms;
+  sound : (l.keeper ≡ l.fn.keeper) ⊎ IsWritten (arc_value l.fn.rules).symbols l.state.words.items l.state.terms;
   ready : WereReady l.fn.keeper l.keeper;
-  from : (s : SystemParts) → IsStateOf s (kept_by l.fn.state) → IsReachedFrom s (kept_by l.fn.state) (kept_by l.state);
-  together : (s : SystemParts) → IsStateOf s (kept_by l.fn.state) → (kept_by l.state ≡ kept_by l.fn.state) ⊎ ComesTogether s (kept_by l.fn.state) (kept_by l.state);
-  kept : (s : SystemParts) → IsStateOf s (kept_by l.fn.state) → IsKept (kept_by l.fn.state)
+  from : (s : SystemParts) → AreRulesOf s (arc_value l.fn.rules) → IsStateOf s (kept_by l.fn.state) → IsReachedFrom s (kept_by l.fn.state) (kept_by l.state);
+  together : (s : SystemParts) → AreRulesOf s (arc_value l.fn.rules) → IsStateOf s (kept_by l.fn.state) → (kept_by l.state ≡ kept_by l.fn.state) ⊎ ComesTogether s (kept_by l.fn.state) (kept_by l.state);
+  kept : (s : SystemParts) → AreRulesOf s (arc_value l.fn.rules) → IsStateOf s (kept_by l.fn.state) → IsKept (kept_by l.fn.state)
       → HasKept g.D.Disk.keeps g.D.Disk.image g.D.Disk.clock g.D.Disk.left s (kept_by l.fn.state) l.fn.keeper (kept_by l.state) l.kept_ended l.keeper;
 }

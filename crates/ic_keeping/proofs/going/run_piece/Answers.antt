@@ -56,7 +56,7 @@ returns-clause-further g c s first sound rules from =
       low = c.names_are_told_apart.ensures.low;
     } in
     reached_from naming laws s t sound (kept_by old) (kept_by c.take_in.new.state) from.is (c.in_ok-system.ensures.rules ∙ rules) interface equations c.in_ok-system.ensures.names c.in_ok-system.ensures.low
-    c.args.bounds answer.0 reduced.end reduced.interactions reduced.places reduced.left reduced.by_rule.items answer.1 answer.2 reduced.words.items reduced.terms answer.4.written
+    c.args.bounds answer.0 reduced.end reduced.interactions reduced.by_rule.items answer.1 answer.2 reduced.words.items reduced.terms answer.4.written
     piece.text piece.words piece.terms piece.interactions piece.by_rule first from quiet_laws telling piece.millis piece.ended.0
     (whole c.take_in.new.state.words.items reduced.words.items piece.words answer.4.whole) reduced.equations
     (ap (λ (ws : List Word). length (forest ws)) piece.words ∙ answer.4.counted ∙ omega (arith, piece.terms))
@@ -65,8 +65,8 @@ pub returns-clause-stays : goal.returns-clause-stays
 returns-clause-stays g c same =
     let piece = c.in_ok-piece.ensures in
     let reached = c.in_ok-reduced.ensures.1 in
-    counts_stay _ reached.reached.fired c.args.state.now.by_rule.items c.in_ok-reduced.reduced.by_rule.items c.take_in.new.state.by_rule.items
-    (omega (arith, same, piece.interactions, reached.reached.counted)) reached.counts piece.by_rule
+    counts_stay _ reached.fired c.args.state.now.by_rule.items c.in_ok-reduced.reduced.by_rule.items c.take_in.new.state.by_rule.items
+    (omega (arith, same, piece.interactions, reached.counted)) reached.counts piece.by_rule
 
 pub returns-in_err-system-clause-refused : goal.returns-in_err-system-clause-refused
 returns-in_err-system-clause-refused g c s sound rules is =
@@ -84,7 +84,7 @@ returns-in_err-system-clause-refused g c s sound rules is =
     (subst (λ (rs : Rules). IsTrue (is_over rs.symbols there)) (sym rules) over)))
 
 pub returns-clause-answer : goal.returns-clause-answer
-returns-clause-answer g c s most sound rules is nodes few = λ steps.
+returns-clause-answer g c s most sound rules is few = λ steps.
     let naming : NamingLaws = record {
       next = c.a_name_step_leads_to_one_net.ensures.next;
       net = c.a_renumbered_net_is_the_same_net.ensures.net;
@@ -105,15 +105,13 @@ returns-clause-answer g c s most sound rules is nodes few = λ steps.
     let interface = c.in_ok-system.ensures.interface ∙ ap (λ (ws : List Word). (configuration_of ws old.terms 0).interface) words in
     let equations = c.in_ok-system.ensures.equations ∙ ap (λ (ws : List Word). (configuration_of ws old.terms 0).equations) words in
     let piece = c.in_ok-piece.ensures in
-    subst (λ (e : End). IsAnswer s most e c.in_ok-piece.piece.places c.in_ok-piece.piece.left (kept_by c.take_in.new.state)) (sym piece.end)
-    (subst (λ (n : ℕ). IsAnswer s most reduced.end n c.in_ok-piece.piece.left (kept_by c.take_in.new.state)) (sym piece.places)
-    (subst (λ (n : ℕ). IsAnswer s most reduced.end reduced.places n (kept_by c.take_in.new.state)) (sym piece.left)
+    subst (λ (e : End). IsAnswer s most e (kept_by c.take_in.new.state)) (sym piece.end)
     (answer_of naming laws s t sound (kept_by old) (kept_by c.take_in.new.state) is (c.in_ok-system.ensures.rules ∙ rules) interface equations c.in_ok-system.ensures.names c.in_ok-system.ensures.low
-    c.args.bounds answer.0 reduced.end reduced.interactions reduced.places reduced.left reduced.by_rule.items answer.1 answer.2 reduced.words.items reduced.terms answer.4.written
-    piece.text piece.words piece.terms piece.interactions piece.by_rule most nodes few (λ ended. steps (piece.end ∙ ended)))))
+    c.args.bounds answer.0 reduced.end reduced.interactions reduced.by_rule.items answer.1 answer.2 reduced.words.items reduced.terms answer.4.written
+    piece.text piece.words piece.terms piece.interactions piece.by_rule most few (λ ended. steps (piece.end ∙ ended)))
 
 pub returns-clause-within : goal.returns-clause-within
-returns-clause-within g c = omega (arith, c.in_ok-piece.ensures.interactions, c.in_ok-reduced.ensures.1.reached.within)
+returns-clause-within g c = omega (arith, c.in_ok-piece.ensures.interactions, c.in_ok-reduced.ensures.1.within)
 
 pub returns-clause-whole : goal.returns-clause-whole
 returns-clause-whole g c = whole c.take_in.new.state.words.items c.in_ok-reduced.reduced.words.items c.in_ok-piece.ensures.words c.in_ok-reduced.ensures.4.whole
@@ -148,7 +146,7 @@ returns-clause-written g c =
     let answer = c.in_ok-reduced.ensures in
     let piece = c.in_ok-piece.ensures in
     let is = reached_written naming laws c.what_is_reached_is_one_net.ensures.itself t c.systems_are_sound.ensures.sound
-    c.args.bounds answer.0 reduced.end reduced.interactions reduced.places reduced.left reduced.by_rule.items answer.1 c.in_ok-system.ensures.low
+    c.args.bounds answer.0 reduced.end reduced.interactions reduced.by_rule.items answer.1 c.in_ok-system.ensures.low
     reduced.words.items reduced.terms answer.4.written answer.4.whole reduced.equations answer.4.counted in
     subst (λ (ws : List Word). IsWritten (arc_value c.args.rules.now).symbols ws c.take_in.new.state.terms) (sym piece.words)
     (subst (λ (n : ℕ). IsWritten (arc_value c.args.rules.now).symbols reduced.words.items n) (sym piece.terms)
@@ -165,7 +163,7 @@ returns-in_err-system-clause-sound g c is =
 
 pub returns-clause-steps : goal.returns-clause-steps
 returns-clause-steps g c same =
-    let r = c.in_ok-reduced.ensures.1.reached in
+    let r = c.in_ok-reduced.ensures.1 in
     let ended = subst (λ (e : End). EndsBy c.in_ok-system.system.rules.rules c.args.bounds c.in_ok-reduced.ensures.0 c.in_ok-reduced.reduced.interactions e) (sym c.in_ok-piece.ensures.end ∙ same) r.ended in
     omega (arith, ended.0, c.in_ok-piece.ensures.interactions)
 
@@ -207,7 +205,7 @@ returns-in_err-piece-clause-limit g c s first sound rules from =
     let long : length old.by_rule.items ≡ length reduced.by_rule.items = from.is.way.counts.all ∙ sym (answer.1.counts.all ∙ ap (λ (rs : Rules). length rs.rules) same) in
     let e = err_from_is_err_and c.from_residual-in_err-piece.result c.from_residual-in_err-piece.ensures.1 in
     rw (e.1, e.2) (λ limit. inr (past_sums s first (kept_by old) from naming laws t sound same interface equations c.in_ok-system.ensures.names
-    c.args.bounds answer.0 reduced.end reduced.interactions reduced.places reduced.left reduced.by_rule.items answer.1 answer.2 (c.in_err-piece.ensures.limit long)))
+    c.args.bounds answer.0 reduced.end reduced.interactions reduced.by_rule.items answer.1 answer.2 (c.in_err-piece.ensures.limit long)))
 
 pub returns-clause-together : goal.returns-clause-together
 returns-clause-together g c s first sound rules from =
@@ -237,7 +235,7 @@ returns-clause-together g c s first sound rules from =
     let equations = c.in_ok-system.ensures.equations ∙ ap (λ (ws : List Word). (configuration_of ws old.terms 0).equations) words in
     let piece = c.in_ok-piece.ensures in
     comes s first (kept_by old) from naming laws t sound (c.in_ok-system.ensures.rules ∙ rules) interface equations c.in_ok-system.ensures.names
-    c.args.bounds answer.0 reduced.end reduced.interactions reduced.places reduced.left reduced.by_rule.items answer.1 answer.2
+    c.args.bounds answer.0 reduced.end reduced.interactions reduced.by_rule.items answer.1 answer.2
     (kept_by c.take_in.new.state) piece.interactions
     (as_many_nodes telling answer.0 reduced.words.items reduced.terms reduced.equations answer.4.counted answer.4.written ∙ ap (λ (ws : List Word). length ws) (sym piece.words))
 

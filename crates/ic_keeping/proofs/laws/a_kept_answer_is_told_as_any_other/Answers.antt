@@ -5,7 +5,7 @@ use Rattle.ic_in_place.specs.Reductions.{is_written}
 use Rattle.ic_keeping.proofs.laws.a_kept_answer_is_told_as_any_other.Goals as goal
 
 pub returns-clause-line : goal.returns-clause-line
-returns-clause-line c = λ s bounds end places left k asked is. (λ i. cond (is_written asked end) (line_of s.rules.symbols (is.written i)) [])
+returns-clause-line c = λ s bounds end k asked is. (λ i. cond (is_written asked end) (line_of s.rules.symbols (is.written i)) [])
 
 pub returns-clause-stuck : goal.returns-clause-stuck
-returns-clause-stuck c = λ s bounds places left k is. (λ i. stuck_text s.rules.symbols (is.written i))
+returns-clause-stuck c = λ s bounds k is. (λ i. stuck_text s.rules.symbols (is.written i))

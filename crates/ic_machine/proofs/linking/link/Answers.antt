@@ -1,10 +1,10 @@
-use Rattle.std.proofs.Common.{List, [], ◌∷◌, ◌++◌, map, subst, ◌∙◌, refl}
+use Rattle.std.proofs.Common.{◌≡◌, List, [], ◌∷◌, ◌++◌, map, ap, subst, sym, ◌∙◌, refl}
 use Rattle.std.proofs.lemmas.List.Sorted.{IsPermutation-refl}
 use Rattle.ic_arena.specs.declared.word.Word.{Word}
 use Rattle.ic_arena.specs.Piece.{Piece, equated, waits}
 use Rattle.ic_arena.specs.Tables.{Entries, Replaced, names_pieces}
 use Rattle.ic_machine.specs.declared.equation.Equation.{Equation}
-use Rattle.ic_machine.specs.Net.{equated_of}
+use Rattle.ic_machine.specs.Net.{equated_of, IsPair}
 use Rattle.ic_machine.specs.Steps.{Steps, no_step}
 use Rattle.ic_machine.specs.inner.Linking.{Meeting}
 use Rattle.ic_machine.proofs.Links.{meeting, meets_right, named_turned, side_room, steps_on}
@@ -15,6 +15,7 @@ follow-init c = record {
   steps = λ p rest.
       let xs : List Piece = equated_of c.args.equation ∷ (names_pieces 0 c.args.names.now.entries ++ rest) in
       no_step xs xs (IsPermutation-refl xs);
+  pair = λ e. (refl, refl);
   named = c.requires.named;
   names = refl;
   memory = refl;
@@ -46,6 +47,7 @@ follow-preserved-in-Some c =
     let met : Meeting l r u old new = meeting l r u old new c.follow.invariant.named c.in-Some.ensures.taken.word c.in-Some.ensures.taken.gone in
     record {
       steps = λ p rest. steps_on p (equated l r ∷ (names_pieces 0 old ++ rest)) (c.follow.invariant.steps p rest) (met.steps p rest);
+      pair = λ e. absurd (e.0 (ap (λ (w : Word). w.tag) (sym (c.follow.invariant.pair e).0) ∙ c.in-Some.ensures.taken.named));
       named = met.named;
       names = c.taken.ensures.names ∙ c.follow.invariant.names;
       memory = c.taken.ensures.memory ∙ c.follow.invariant.memory;
@@ -69,6 +71,7 @@ follow-preserved c =
     record {
       steps = λ p rest. steps_on p (equated l r ∷ (names_pieces 0 old ++ rest)) (c.follow.invariant.steps p rest)
           (meets_right p l r u (names_pieces 0 old) (names_pieces 0 new) rest met.steps);
+      pair = λ e. absurd (e.1 (ap (λ (w : Word). w.tag) (sym (c.follow.invariant.pair e).1) ∙ c.in-Some-taken.ensures.taken.named));
       named = named_turned u l new met.named;
       names = c.taken-in_default.ensures.names ∙ c.taken.ensures.names ∙ c.follow.invariant.names;
       memory = c.taken-in_default.ensures.memory ∙ c.taken.ensures.memory ∙ c.follow.invariant.memory;
@@ -88,3 +91,23 @@ returns-in_default-taken-clause-steps c = λ p rest.
     (subst (λ (e : List Equation). Steps p [] (equated l r ∷ (ns ++ (map equated_of e ++ rest))) end) c.follow.invariant.pending
     (subst (λ (n : Entries). Steps p [] (equated l r ∷ (names_pieces 0 n.entries ++ (map equated_of c.follow.pending.items ++ rest))) end)
     (c.in_default-taken.ensures.same ∙ c.in_default.ensures.same) (c.settle.ensures.steps p rest)))
+
+pub returns-in_default-taken-clause-pair : goal.returns-in_default-taken-clause-pair
+returns-in_default-taken-clause-pair c = λ e.
+    let same = c.follow.invariant.pair e in
+    let given : record { left = c.follow.left; right = c.follow.right } ≡ c.args.equation =
+    λ i. record { left = same.0 i; right = same.1 i } in
+    let pair = c.settle.ensures.pair (subst IsPair (sym given) e) in
+    pair ∙ (ap (λ (l : List Equation). l ++ record { left = c.follow.left; right = c.follow.right } ∷ []) c.follow.invariant.pending
+    ∙ ap (λ (v : Equation). c.args.pending.now.items ++ v ∷ []) given)
+
+pub returns-in_default-taken-clause-bare : goal.returns-in_default-taken-clause-bare
+returns-in_default-taken-clause-bare c = λ p rest more is.
+    let l : Word = c.follow.left in
+    let r : Word = c.follow.right in
+    let ns : List Piece = names_pieces 0 c.follow.names.entries in
+    let end : List Piece = names_pieces 0 c.settle.new.names.entries ++ (map equated_of more ++ rest) in
+    steps_on p (equated l r ∷ (ns ++ rest)) (c.follow.invariant.steps p rest)
+    (subst (λ (n : Entries). Steps p [] (equated l r ∷ (names_pieces 0 n.entries ++ rest)) end)
+    (c.in_default-taken.ensures.same ∙ c.in_default.ensures.same)
+    (c.settle.ensures.bare p rest more (is ∙ ap (λ (e : List Equation). e ++ more) (sym c.follow.invariant.pending))))

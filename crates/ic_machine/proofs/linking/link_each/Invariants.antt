@@ -1,10 +1,12 @@
 use Rattle.std.proofs.Common.{◌≡◌, ◌+◌, ◌≤◌, List, [], ◌++◌, map, drop, length, vec_len, vec_capacity}
 use Rattle.ic_arena.specs.Piece.{Piece}
 use Rattle.ic_arena.specs.Tables.{names_pieces}
+use Rattle.ic_machine.specs.declared.equation.Equation.{Equation}
 use Rattle.ic_machine.specs.Plan.{Plans, linked}
 use Rattle.ic_machine.specs.Net.{equated_of}
 use Rattle.ic_machine.specs.Steps.{Steps}
 use Rattle.ic_machine.specs.inner.Linking.{AreLinks, Pushed}
+use Rattle.ic_machine.proofs.Heads.{HeadSoFar}
 use Rattle.ic_machine.proofs.linking.link_each.Given as goal
 
 abbrev pub invariant-loop-each : goal.invariant-loop-each
@@ -15,6 +17,10 @@ invariant-loop-each l = record {
       (map (linked l.registers) (drop l.each-index l.links)
       ++ (names_pieces 0 l.names.entries ++ (map equated_of l.pending.items ++ rest)));
   links : AreLinks (drop l.each-index l.links) l.registers l.names.entries;
+  bare : (p : Plans) (rest : List Piece) (more : List Equation) → l.pending.items ≡ l.initial.pending.items ++ more → Steps p []
+      (map (linked l.registers) l.links ++ (names_pieces 0 l.initial.names.entries ++ rest))
+      (map (linked l.registers) (drop l.each-index l.links) ++ (names_pieces 0 l.names.entries ++ (map equated_of more ++ rest)));
+  head : HeadSoFar l.links l.registers l.each-index l.initial.pending.items l.pending.items;
   pushed : Pushed l.initial.pending.items l.pending.items;
   len : vec_len l.pending ≤ vec_len l.initial.pending + l.each-index;
   capacity : vec_capacity l.pending ≡ vec_capacity l.initial.pending;

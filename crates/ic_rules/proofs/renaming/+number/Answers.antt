@@ -1,17 +1,16 @@
-use Rattle.std.proofs.Common.{◌≡◌, arith, rules, ap, sym, ◌∙◌, map}
+use Rattle.std.proofs.Common.{◌≡◌, arith, ap, sym, ◌∙◌, map}
 use Rattle.std.proofs.lemmas.Grind.{common_steps}
 use Rattle.ic_term.specs.lemmas.TermLaws.{tree-Name, cell_tree-roll, cell_tree-out}
 use Rattle.ic_term.specs.Tree.{name, agent, trees_of}
 use Rattle.ic_term.specs.Term.{tree}
 use Rattle.ic_rules.specs.Renaming.{number_among, renamed}
 use Rattle.ic_rules.specs.lemmas.RenamingLaws.{renamed_trees-trees_of}
-use Rattle.ic_rules.proofs.RenamingLemmas.{place_or_length}
 use Rattle.ic_rules.proofs.renaming.+number.Goals as goal
 
 pub number_cell-returns : goal.number_cell-returns
 number_cell-returns t c =
     let cell = c.args.cell.now in
-    let f = number_among c.args.firsts.now.keys in
+    let f = number_among c.args.firsts.now in
     let done : map tree c.loop-term.args.items ≡ map (renamed f) (map tree cell.args.items) = grind (arith, common_steps) in
     cell_tree-roll (record { sym = cell.sym; args = c.loop-term.args })
     ∙ ap (λ ts. agent cell.sym (trees_of ts)) done
@@ -20,8 +19,7 @@ number_cell-returns t c =
 
 pub number_term-returns-in-Name : goal.number_term-returns-in-Name
 number_term-returns-in-Name t c =
-    let number : c.unwrap_or-number.result ≡ number_among c.args.firsts.now.keys c.in-Name.name = search (rules, place_or_length) in
-    let f = number_among c.args.firsts.now.keys in
-    tree-Name c.unwrap_or-number.result
-    ∙ ap name number
+    let f = number_among c.args.firsts.now in
+    tree-Name c.number.result
+    ∙ ap name c.number.ensures
     ∙ sym (ap (λ u. renamed f (tree u)) c.in-Name.is ∙ ap (renamed f) (tree-Name c.in-Name.name))

@@ -6,4 +6,4 @@ use Rattle.ic_rules.proofs.renaming.+number.Given as goal
 -- the arguments so far are numbered
 abbrev pub invariant-number_cell-loop-term : goal.invariant-number_cell-loop-term
 invariant-number_cell-loop-term l =
-    map tree l.args.items ≡ map (renamed (number_among l.firsts.keys)) (map tree (take l.term-index l.term-items))
+    map tree l.args.items ≡ map (renamed (number_among l.firsts)) (map tree (take l.term-index l.term-items))

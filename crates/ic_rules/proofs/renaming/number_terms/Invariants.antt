@@ -6,4 +6,4 @@ use Rattle.ic_rules.proofs.renaming.number_terms.Given as goal
 -- those so far are numbered
 abbrev pub invariant-loop-term : goal.invariant-loop-term
 invariant-loop-term l =
-    map tree l.numbered.items ≡ map (renamed (number_among l.firsts.keys)) (map tree (take l.term-index l.terms))
+    map tree l.numbered.items ≡ map (renamed (number_among l.firsts)) (map tree (take l.term-index l.terms))

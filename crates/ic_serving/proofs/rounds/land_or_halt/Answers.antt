@@ -1,4 +1,4 @@
-use Rattle.std.proofs.Common.{subst, sym, ◌∙◌, Err}
+use Rattle.std.proofs.Common.{subst, sym, ◌∙◌, Err, inl, arith}
 use Rattle.ic_flights.specs.Played.{PlayedParts}
 use Rattle.ic_jobs.specs.Landing.{Awaits}
 use Rattle.ic_book.specs.Book.{table_of}
@@ -13,7 +13,7 @@ land_awaited-requires g c =
 
 pub halt_awaited-requires-clause-blocked : goal.halt_awaited-requires-clause-blocked
 halt_awaited-requires-clause-blocked g c =
-    c.refused_flights_are_blocked.ensures.workers c.args.workers c.args.flight.now c.in-Err.fault c.in-Err.ensures.answer (sym c.is_of_flight.ensures ∙ c.if-not-is_of_flight.false)
+    c.refused_flights_are_blocked.ensures.alone c.args.flight.now c.in-Err.fault c.in-Err.ensures.answer (sym c.is_of_flight.ensures ∙ c.if-not-is_of_flight.false)
 
 pub returns-then-not-is_of_flight-clause-done : goal.returns-then-not-is_of_flight-clause-done
 returns-then-not-is_of_flight-clause-done g c = by_nothing c.args.book.now c.facts.ensures.step
@@ -31,10 +31,11 @@ pub returns-clause-done : goal.returns-clause-done
 returns-clause-done g c = by_round _ Moved c.land_awaited.result c.args.book.now c.land_awaited.new.self c.land_awaited.ensures.step
 
 pub returns-then-not-is_of_flight-clause-alone : goal.returns-then-not-is_of_flight-clause-alone
-returns-then-not-is_of_flight-clause-alone g c = λ one. one_thread_refuses c.args.flight.now c.in-Err.fault (c.in-Err.ensures.alone one)
+returns-then-not-is_of_flight-clause-alone g c = one_thread_refuses c.args.flight.now c.in-Err.fault c.in-Err.ensures.answer
 
 pub returns-then-not-is_of_flight-clause-blocked : goal.returns-then-not-is_of_flight-clause-blocked
-returns-then-not-is_of_flight-clause-blocked g c = λ blocked. blocked_refuses c.args.flight.now c.in-Err.fault
-    (c.refused_flights_are_blocked.ensures.others c.args.workers c.args.flight.now c.in-Err.fault c.requires.workers c.in-Err.ensures.answer
-    (sym c.is_of_flight.ensures ∙ c.if-not-is_of_flight.true))
-    ((c.workers_answer_so.ensures.some c.args.workers c.args.flight.now (Err c.in-Err.fault) c.requires.workers).0 c.in-Err.ensures.answer) blocked
+returns-then-not-is_of_flight-clause-blocked g c = λ blocked.
+    let by = (c.workers_answer_so.ensures.some 1 c.args.flight.now (Err c.in-Err.fault) (omega arith)).1 (inl c.in-Err.ensures.answer) in
+    blocked_refuses c.args.flight.now c.in-Err.fault
+    (c.refused_flights_are_blocked.ensures.others 1 c.args.flight.now c.in-Err.fault (omega arith) by (sym c.is_of_flight.ensures ∙ c.if-not-is_of_flight.true))
+    (inl c.in-Err.ensures.answer) blocked

@@ -27,6 +27,6 @@ returns-clause-idle g c = λ scripts runners turns k after history is.
     (c.due_is_the_next_running_job.ensures.none (table_of a.book) after).1 (none_at (table_of a.book) none)
 
 pub returns-clause-turns : goal.returns-clause-turns
-returns-clause-turns g c = λ scripts runners turns k history is.
+returns-clause-turns g c = λ scripts runners turns k taken history is.
     let a = c.args.attended.now in
-    at_place (EndHolds turns (table_of a.book) (log_of a.book)) a.ends.items k Turns history.ends is
+    at_place (EndHolds turns (table_of a.book) (log_of a.book)) a.ends.items k (Turns taken) history.ends is

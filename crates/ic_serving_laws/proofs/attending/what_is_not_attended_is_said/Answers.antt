@@ -14,11 +14,11 @@ pub returns-clause-counted : goal.returns-clause-counted
 returns-clause-counted g c fault is = is.counted
 
 pub returns-clause-stopped : goal.returns-clause-stopped
-returns-clause-stopped g c scripts runners workers is =
+returns-clause-stopped g c scripts runners turns workers is =
     (is.followed.followed, is.followed.counted, is.followed.may_be)
 
 pub returns-clause-began : goal.returns-clause-began
-returns-clause-began g c scripts runners workers is keeps = is.held keeps
+returns-clause-began g c scripts runners turns workers is keeps = is.held keeps
 
 pub returns-clause-torn : goal.returns-clause-torn
 returns-clause-torn g c scripts runners turns workers is =

@@ -10,11 +10,11 @@ returns-clause-sent c = λ before after text more is.
     (length is.sent, omega (arith, sum), is.written ∙ ap (λ sent. text ++ (before ++ sent)) (sym front))
 
 pub returns-clause-answered : goal.returns-clause-answered
-returns-clause-answered c = λ front t u old new is.
-    (is.whole, is.last, is.answers, is.more, is.between, is.parted, is.one, is.answered, is.done, is.written)
+returns-clause-answered c = λ most front t u old new is.
+    (is.whole, is.last, is.answers, is.more, is.between, is.parted, is.few, is.answered, is.done, is.written)
 
 pub returns-clause-done : goal.returns-clause-done
-returns-clause-done c = λ front t u old new is. (
+returns-clause-done c = λ most front t u old new is. (
   is.answers ++ is.more,
   is.within,
   subst (λ (ls : List (List ℕ)). IsServed t ls (is.answers ++ is.more) u) (sym is.parted)

@@ -5,7 +5,7 @@ use Rattle.ic_serving_laws.proofs.PartLemmas.{asks_rounds, at_line, comes_for}
 use Rattle.ic_serving_laws.proofs.laws.a_serving_ends_for_what_a_line_asks.Goals as goal
 
 pub returns-clause-book : goal.returns-clause-book
-returns-clause-book c = λ fault all front rest t u kept old new is.
+returns-clause-book c = λ fault most all front rest t u kept old new is.
     let at = at_line is.between rest u (Book fault) is.says in (
       at.0,
       at.1,
@@ -15,7 +15,7 @@ returns-clause-book c = λ fault all front rest t u kept old new is.
     )
 
 pub returns-clause-pool : goal.returns-clause-pool
-returns-clause-pool c = λ fault all front rest t u kept old new is.
+returns-clause-pool c = λ fault most all front rest t u kept old new is.
     let at = at_line is.between rest u (Pool fault) is.says in
     let here = at.3 in
     let asks = asks_rounds is.between at.0 here.reading u fault here.read here.comes in (

@@ -5,3 +5,6 @@ returns-clause-known c = λ text p. (λ h. h, λ h. h)
 
 pub returns-clause-unknown : goal.returns-clause-unknown
 returns-clause-unknown c = λ p. (λ h. h, λ h. h)
+
+pub returns-clause-read_out : goal.returns-clause-read_out
+returns-clause-read_out c = λ text new is. is

@@ -1,5 +1,7 @@
 use Rattle.ic_lives.specs.lemmas.RunLemmas.{table_after}
 use Rattle.ic_serving_laws.proofs.ServedLemmas.{reaches_more, stopped_so, failed_by, once_by}
+use Rattle.ic_book.specs.Book.{table_of}
+use Rattle.ic_serving_laws.proofs.PartLemmas.{left_within}
 use Rattle.ic_serving_laws.proofs.served.the_served_headline.Goals as goal
 
 pub returns-clause-ended : goal.returns-clause-ended
@@ -22,3 +24,12 @@ returns-clause-broken g c done later earlier who command reply same =
 pub returns-clause-once : goal.returns-clause-once
 returns-clause-once g c done later between earlier who other command second reply answer =
     once_by done.moves later between earlier who other command second reply answer c.args.old.now c.args.new.now done.calls
+
+pub returns-clause-group : goal.returns-clause-group
+returns-clause-group g c most fault ls before after serving one other =
+    let ended = serving.ended other in (
+      ended.answered.answers,
+      ended.between,
+      ended.answered.served,
+      left_within c.one_line_reading.ensures.total fault most ended.between (table_of c.args.new.now) serving.rest one ended.in_group,
+    )

@@ -1,6 +1,6 @@
 use Rattle.std.proofs.Common.{◌≢◌, refl}
 use Rattle.ic_disk.specs.declared.disk.Disk.{Ghosts}
-use Rattle.ic_book.specs.Moves.{Move, opens, refuses, answers, fails, rounds, keeps, stays, closes, stops}
+use Rattle.ic_book.specs.Moves.{Move, opens, refuses, answers, fails, takes, rounds, keeps, stays, closes, stops}
 use Rattle.ic_book.specs.Server.{IsFound, Server, Step, disk_in, down, up}
 use Rattle.ic_serving_laws.proofs.stops.stops_are_steps.Goals as goal
 
@@ -15,6 +15,8 @@ module _ {D : Type 0} {ghosts : Ghosts D} where
   stopped (answers who command reply) (up book) after found other step here = (after, step, here)
   stopped (fails who command reply) (down disk) after found other step here = (after, step, here)
   stopped (fails who command reply) (up book) after found other step here = (after, step, here)
+  stopped (takes who command reply) (down disk) after found other step here = (after, step, here)
+  stopped (takes who command reply) (up book) after found other step here = (after, step, here)
   stopped (rounds name reply) (down disk) after found other step here = (after, step, here)
   stopped (rounds name reply) (up book) after found other step here = (after, step, here)
   stopped keeps (down disk) after found other step here = (after, step, here)

@@ -1,17 +1,10 @@
-use Rattle.std.proofs.Common.{◌≡◌, ℕ, zero, suc, ◌+◌, ◌-◌, refl, arith}
-use Rattle.ic_text.specs.WordFaults.{due_after}
+use Rattle.std.proofs.Common.{◌≡◌, ℕ, zero, suc, ◌+◌, ◌-◌, arith}
+use Rattle.ic_text.specs.inner.Counted.{due_after}
 use Rattle.ic_text.proofs.excess.due_after.Goals as goal
 
-none_due : (due arity : ℕ) → due ≡ 0 → arity ≡ due_after due arity
-none_due zero arity e = refl
-none_due (suc due) arity e = absurd (omega (arith, e))
+one_done : (due arity n : ℕ) → n ≡ due - 1 + arity → n ≡ due_after due arity
+one_done zero arity n is = omega (arith, is)
+one_done (suc due) arity n is = omega (arith, is)
 
-some_due : (due arity n : ℕ) → (due ≡ 0 → ⊥) → n ≡ due - 1 + arity → n ≡ due_after due arity
-some_due zero arity n e is = absurd (e refl)
-some_due (suc due) arity n e is = omega (arith, is)
-
-pub returns-then-due-eq0 : goal.returns-then-due-eq0
-returns-then-due-eq0 c = none_due c.args.due c.args.arity c.if-due-eq0.true
-
-pub returns-else-due-eq0 : goal.returns-else-due-eq0
-returns-else-due-eq0 c = some_due c.args.due c.args.arity _ c.if-due-eq0.false refl
+pub returns : goal.returns
+returns c = λ low. one_done c.args.due c.args.arity _ (omega (arith, low, c.saturating_sub.ensures, c.saturating_add.ensures))

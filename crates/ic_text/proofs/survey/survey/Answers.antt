@@ -1,10 +1,8 @@
-use Rattle.std.proofs.Common.{◌≡◌, ◌-◌, ◌≤◌, false, Some, sym, ap, ◌∙◌, refl, arith, get_or, take, drop, length}
-use Rattle.std.proofs.lemmas.List.{length-take, get_or_past}
-use Rattle.ic_text.specs.Token.{is_word_byte, word_of}
-use Rattle.ic_text.specs.inner.Survey.{taken, taken_after, counted}
+use Rattle.std.proofs.Common.{◌-◌, ◌≤◌, Some, sym, ap, ◌∙◌, refl, arith, get_or, take, drop, length}
+use Rattle.std.proofs.lemmas.List.{length-take}
+use Rattle.ic_text.specs.inner.Survey.{taken_after, counted}
 use Rattle.ic_text.proofs.TokenLemmas.{joined_run}
 use Rattle.ic_text.proofs.Surveying.{refused_run, refused_byte, goes_on}
-use Rattle.ic_text.proofs.Placing.{stops_at_run, stops_at_byte, stops_at_end, goes_after, goes_along}
 use Rattle.ic_text.proofs.survey.survey.Goals as goal
 use Rattle.ic_text.proofs.survey.survey.Goals.{then-not-is_word_byte+else-not-take_run+else-not-take_byte, else-not-is_word_byte}
 
@@ -21,37 +19,6 @@ returns-then-not-take_byte-clause-counts c =
     let apart = sym c.is_word_byte.ensures ∙ c.if-not-is_word_byte.true in
     refused_byte c.args.text.now c.loop-place.start place (get_or c.args.text.now place 0) (omega arith) c.loop-place.invariant.begins refl
     c.loop-place.progress _ c.loop-place.invariant.same c.take_run.new.self apart c.if-not-take_run.ensures.taken c.if-not-take_byte.ensures.refused
-
-pub returns-then-not-take_run-clause-place : goal.returns-then-not-take_run-clause-place
-returns-then-not-take_run-clause-place c =
-    let apart = sym c.is_word_byte.ensures ∙ c.if-not-is_word_byte.true in
-    stops_at_run c.args.part c.args.text.now c.loop-place.start c.loop-place.place c.loop-place.progress c.loop-place.invariant.way
-    (omega arith) apart c.if-not-take_run.ensures.refused
-
-pub returns-then-not-take_byte-clause-place : goal.returns-then-not-take_byte-clause-place
-returns-then-not-take_byte-clause-place c =
-    let apart = sym c.is_word_byte.ensures ∙ c.if-not-is_word_byte.true in
-    stops_at_byte c.args.part c.args.text.now c.loop-place.start c.loop-place.place c.loop-place.progress c.loop-place.invariant.way
-    c.take_run.new.self c.if-not-take_run.ensures.taken (omega arith) apart c.if-not-take_byte.ensures.refused
-
-pub returns-then-not-take_run-2-clause-place : goal.returns-then-not-take_run-2-clause-place
-returns-then-not-take_run-2-clause-place c =
-    let text = c.args.text.now in
-    let start = c.loop-place.start in
-    let place = c.loop-place.place in
-    let end : place ≡ length text = omega arith in
-    let apart : is_word_byte (get_or text place 0) ≡ false = ap is_word_byte (get_or_past text place 0 (omega arith)) in
-    stops_at_run c.args.part text start place c.loop-place.progress c.loop-place.invariant.way (omega arith) apart
-    (c.if-not-take_run-2.ensures.refused ∙ ap (λ n. taken (Some c.loop-place.progress) (word_of (take (n - start) (drop start text)))) (sym end))
-
-pub returns-in-None-clause-place : goal.returns-in-None-clause-place
-returns-in-None-clause-place c =
-    let text = c.args.text.now in
-    let start = c.loop-place.start in
-    let place = c.loop-place.place in
-    let end : place ≡ length text = omega arith in
-    stops_at_end c.args.part text start place c.loop-place.progress c.loop-place.invariant.way c.take_run-2.new.self
-    (c.if-not-take_run-2.ensures.taken ∙ ap (λ n. taken (Some c.loop-place.progress) (word_of (take (n - start) (drop start text)))) (sym end)) end
 
 pub loop-place-preserved : goal.loop-place-preserved
 loop-place-preserved c =
@@ -74,7 +41,6 @@ loop-place-preserved c =
               depth = omega (arith, short, run.depth, byte.depth, within.depth);
             };
             same = goes_on text start place b (omega arith) begins refl c.loop-place.progress _ c.loop-place.invariant.same w.take_run.new.self w.take_byte.new.self apart w.if-not-take_run.ensures.taken w.if-not-take_byte.ensures.taken;
-            way = goes_after c.args.part text start place c.loop-place.progress c.loop-place.invariant.way w.take_run.new.self w.if-not-take_run.ensures.taken (omega arith) apart w.take_byte.new.self w.if-not-take_byte.ensures.taken;
           })
       | else-not-is_word_byte w ↦
           let is = sym c.is_word_byte.ensures ∙ w.if-not-is_word_byte.false in
@@ -83,6 +49,5 @@ loop-place-preserved c =
             begins = omega arith;
             within = within;
             same = ap (λ o. counted (taken_after (Some c.loop-place.progress) o)) joined ∙ c.loop-place.invariant.same;
-            way = goes_along c.args.part text start place c.loop-place.progress c.loop-place.invariant.way (omega arith) is;
           })
     ]

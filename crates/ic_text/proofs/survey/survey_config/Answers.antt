@@ -4,13 +4,9 @@ use Rattle.ic_text.specs.Source.{IsPhrase, phrase_words}
 use Rattle.ic_text.specs.inner.Survey.{Tells}
 use Rattle.ic_text.proofs.OneReading.{told}
 use Rattle.ic_text.proofs.Surveying.{surveyed_tells}
-use Rattle.ic_text.proofs.Going.{placed}
 use Rattle.ic_text.proofs.survey.survey_config.Goals as goal
 
 pub returns-clause-counts : goal.returns-clause-counts
 returns-clause-counts c =
     let text = c.args.text.now in
     subst (Tells IsPhrase phrase_words text) (sym c.survey.ensures.counts) (surveyed_tells IsPhrase phrase_words told Begin (λ ts. refl) text)
-
-pub returns-clause-place : goal.returns-clause-place
-returns-clause-place c = placed IsPhrase phrase_words told Begin (λ ts. refl) c.args.text.now c.survey.result c.survey.ensures.place

@@ -4,13 +4,9 @@ use Rattle.ic_text.specs.SystemSource.{IsSystemPhrase, system_words}
 use Rattle.ic_text.specs.inner.Survey.{Tells}
 use Rattle.ic_text.proofs.OneSystem.{told_systems}
 use Rattle.ic_text.proofs.Surveying.{surveyed_tells}
-use Rattle.ic_text.proofs.Going.{placed}
 use Rattle.ic_text.proofs.survey.survey_system.Goals as goal
 
 pub returns-clause-counts : goal.returns-clause-counts
 returns-clause-counts c =
     let text = c.args.text.now in
     subst (Tells IsSystemPhrase system_words text) (sym c.survey.ensures.counts) (surveyed_tells IsSystemPhrase system_words told_systems Start (λ ts. refl) text)
-
-pub returns-clause-place : goal.returns-clause-place
-returns-clause-place c = placed IsSystemPhrase system_words told_systems Start (λ ts. refl) c.args.text.now c.survey.result c.survey.ensures.place

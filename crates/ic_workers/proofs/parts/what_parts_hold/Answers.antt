@@ -58,3 +58,6 @@ returns-clause-alone c =
 
 pub returns-clause-ends : goal.returns-clause-ends
 returns-clause-ends c = λ arities cuts q qs e placed there. other_end arities cuts q qs e placed there
+
+pub returns-clause-symbols : goal.returns-clause-symbols
+returns-clause-symbols c = λ rs p d given fired qs held. held.placed.arities_are

@@ -1,4 +1,4 @@
-use Rattle.ic_workers.proofs.Answered.{refused_of_taken, unwritten_of_taken, written_of_taken, unread}
+use Rattle.ic_in_place.specs.lemmas.Answered.{refused_of_taken, unwritten_of_taken, written_of_taken, unread}
 use Rattle.ic_workers.proofs.stream.reduce_by_workers_stream.Goals as goal
 
 pub returns-in_err-text-clause-answered : goal.returns-in_err-text-clause-answered

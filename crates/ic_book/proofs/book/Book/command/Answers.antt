@@ -59,7 +59,7 @@ invariant_of-self-in-Break-branch-3 g c =
     let stands = stands_added c.args.self.now c.args.who c.args.command c.in_ok-answer.answer c.enter_command.new.log.items c.enter_command.new.table c.in_ok-check_command.ensures.ok c.in_ok-answer.ensures.added in
     let broke = c.in_err-keep_table.ensures.breaks in
     record {
-      history = stands.left keeper.frames.broken broke;
+      history = stands.left keeper.frames.broken;
       on_disk = failed_on_disk c.args.self.now c.enter_command.new.log.items c.enter_command.new.table stands keeper c.keep_table.ensures.keeps c.in_ok-check_command.ensures.ok.0 broke
           c.keep_table.ensures.either_if_made;
       newest = λ _ whole. let never : true ≡ false = sym broke ∙ whole in cc;

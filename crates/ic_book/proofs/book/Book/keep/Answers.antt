@@ -22,7 +22,7 @@ invariant_of-self g c =
     let keeper = c.keep_table.new.keeper in
     let broke = c.in_err-keep_table.ensures.breaks in
     record {
-      history = (stands_here book).left keeper.frames.broken broke;
+      history = (stands_here book).left keeper.frames.broken;
       on_disk = failed_on_disk book book.log.items book.table (stands_here book) keeper c.keep_table.ensures.keeps c.in_ok-check_keepable.ensures.ok broke c.keep_table.ensures.either_if_made;
       newest = λ _ whole. let never : true ≡ false = sym broke ∙ whole in cc;
     }

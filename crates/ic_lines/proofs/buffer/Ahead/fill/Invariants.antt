@@ -9,5 +9,5 @@ invariant-loop g l = record {
   kept : Keeps (g.R.Read.remaining l.fn.reader) (g.R.Read.remaining l.reader);
   empty : l.self-inside.bytes.items ≡ [];
   start : l.self-inside.start ≡ 0;
-  room : 8192 ≤ vec_capacity l.self-inside.bytes;
+  room : 65536 ≤ vec_capacity l.self-inside.bytes;
 }

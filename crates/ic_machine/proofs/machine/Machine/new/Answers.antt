@@ -12,7 +12,7 @@ use Rattle.ic_machine.specs.declared.machine.MachineFault.TheVariants.{Limit}
 use Rattle.ic_machine.specs.declared.tables.Tables.{Tables}
 use Rattle.ic_machine.specs.Plan.{AreMade, IsPlan, Planned, Plans, constants, made_of, pieces_made, planned}
 use Rattle.ic_machine.specs.Net.{equated_of, IsPair}
-use Rattle.ic_machine.specs.Runs.{given_words}
+use Rattle.ic_machine.specs.Runs.{HaveHead, given_words}
 use Rattle.ic_machine.specs.Separate.{IsSeparate}
 use Rattle.ic_machine.specs.Steps.{Steps}
 use Rattle.ic_machine.specs.inner.Firing.{arities_of, heaps_pieces, table}
@@ -239,6 +239,8 @@ returns-clause-starts c =
           ∙ none_yet c.in_ok-tables.tables.heaps.items s c.in_ok-tables.ensures.counts)
           (filled _ _ _ _ _ (registers1 b) refl);
       symbols = length-map t2.heaps.items (λ b. b.count) ∙ many2 c;
+      head = subst (λ (l : List Word). HaveHead p.links l [] t2.pending.items) (registers2 c)
+          (subst (λ (l : List Equation). HaveHead p.links t2.registers.items l t2.pending.items) (pending1 b) c.make.ensures.head);
     }
 
 pub returns-clause-separate : goal.returns-clause-separate

@@ -1,8 +1,11 @@
-use Rattle.std.proofs.Common.{◌^◌, ◌<◌, ap, sym, subst}
+use Rattle.std.proofs.Common.{◌^◌, ◌<◌, List, [], ◌++◌, ap, sym, subst, append_assoc}
+use Rattle.ic_arena.specs.Piece.{Piece}
+use Rattle.ic_arena.specs.Tables.{names_pieces}
+use Rattle.ic_machine.specs.Steps.{Steps}
 use Rattle.ic_machine.specs.declared.machine.Machine.TheInside.{Inside}
 use Rattle.ic_machine.specs.Net.{Net, pieces}
 use Rattle.ic_machine.specs.Runs.{Ran}
-use Rattle.ic_machine.specs.inner.Firing.{arities_of}
+use Rattle.ic_machine.specs.inner.Firing.{arities_of, heaps_pieces}
 use Rattle.ic_machine.specs.inner.Machine.{net_of, IsSound}
 use Rattle.ic_machine.proofs.AtPlaces.{tables_at_places}
 use Rattle.ic_machine.proofs.Sweeps.{net_swept, separate_room, swept_ran, swept_separate, swept_spare, tables_through}
@@ -56,3 +59,14 @@ returns-clause-separate c =
     swept_separate (arities_of m.tables.heaps.items) m.interface.items (pieces (net_of m)) (pieces (net_of (after c)))
     (λ p. net_swept p m.tables.pending.items m.aside.items m.tables.names.entries c.sweep.new.names.entries m.tables.heaps.items
     (c.sweep.ensures.steps p)) c.self.invariant.separate
+
+pub returns-clause-steps : goal.returns-clause-steps
+returns-clause-steps c = λ p rest.
+    let m : Inside = c.self.inside in
+    let h : List Piece = heaps_pieces 0 m.tables.heaps.items in
+    let old : List Piece = names_pieces 0 m.tables.names.entries in
+    let new : List Piece = names_pieces 0 c.sweep.new.names.entries in
+    subst (λ (n : Net). Steps p [] (n.places ++ rest) ((new ++ h) ++ rest)) c.self.view_is
+    (subst (λ (l : List Piece). Steps p [] l ((new ++ h) ++ rest)) (sym (append_assoc old h rest))
+    (subst (λ (l : List Piece). Steps p [] (old ++ (h ++ rest)) l) (sym (append_assoc new h rest))
+    (c.sweep.ensures.steps p (h ++ rest))))

@@ -3,6 +3,8 @@ use Rattle.std.specs.List.{AllByRecursion}
 use Rattle.std.proofs.Math.Seq.{take-append_seam}
 use Rattle.std.proofs.lemmas.Result.{err_from_is_err_and}
 use Rattle.std.proofs.lemmas.List.{length-append, length-map, length_push}
+use Rattle.std.proofs.lemmas.List.Sorted.{IsPermutation-refl}
+use Rattle.ic_machine.specs.inner.Linking.{Pushed}
 use Rattle.ic_arena.specs.declared.word.Word.{Word}
 use Rattle.ic_arena.specs.declared.word.TheConstants.{GIVEN}
 use Rattle.ic_arena.specs.Piece.{Piece}
@@ -10,15 +12,15 @@ use Rattle.ic_arena.specs.Tables.{Blocks, names_pieces}
 use Rattle.ic_machine.specs.declared.equation.Equation.{Equation}
 use Rattle.ic_machine.specs.declared.tables.Tables.{Tables}
 use Rattle.ic_machine.specs.Plan.{Planned, IsPlan, constants, pieces_made, planned}
-use Rattle.ic_machine.specs.Net.{equated_of, in_use, IsPair}
-use Rattle.ic_machine.specs.Runs.{Way}
+use Rattle.ic_machine.specs.Net.{equated_of, in_use, IsPair, IsPairPiece}
+use Rattle.ic_machine.specs.Generations.{FiresPair}
 use Rattle.ic_machine.specs.Separate.{IsSeparate}
-use Rattle.ic_machine.specs.Steps.{AreFresh, Steps}
+use Rattle.ic_machine.specs.Steps.{AreFresh, Steps, no_step}
 use Rattle.ic_machine.specs.inner.Firing.{AreSame, HasRoom, SameSize, arities_of, heaps_pieces, table}
 use Rattle.ic_machine.specs.inner.Tables.{HasRoomFor, held, size_at}
 use Rattle.ic_machine.specs.lemmas.FiringKeeps.{all_of}
 use Rattle.ic_machine.proofs.AtPlaces.{tables_of_pairs}
-use Rattle.ic_machine.proofs.Firings.{args_named, args_words, fire_separate, fire_way, left_there, right_there}
+use Rattle.ic_machine.proofs.Firings.{args_named, args_words, fire_pair, fire_separate, fresh_fewer, left_there, pair_first, right_there}
 use Rattle.ic_machine.proofs.Heaps.{arity_known, as_many, made_known, room_same, same_arities, same_at, same_length, same_pieces, same_sizes_on, table_read}
 use Rattle.ic_machine.proofs.InUse.{same_size}
 use Rattle.ic_machine.proofs.Sound.{first_of, first_registers}
@@ -296,19 +298,41 @@ returns-clause-fires c = λ q i a b rest left_tag right_tag arities number pendi
     let moment : List Piece = new ++ others last.front in
     let before : List Word → List Piece → List Equation → List Piece = λ (n : List Word) (x : List Piece) (f : List Equation).
     names_pieces 0 n ++ (x ++ (map equated_of f ++ map equated_of rest)) in
-    let after = fire_way q i a b (planned c.args.plan.now) last.front e (table h1 (e.left.tag - 1)).arity
+    let start : List Piece = held t (map equated_of rest) in
+    let was : before t1.names.entries (heaps_pieces 0 h1) (last.front ++ e ∷ []) ≡ start =
+    ap (λ (n : List Word). before n (heaps_pieces 0 h1) (last.front ++ e ∷ [])) c.prepare.ensures.names
+    ∙ (ap (λ (x : List Piece). before t.names.entries x (last.front ++ e ∷ [])) (same_pieces h0 h1 0 same)
+    ∙ ap (λ (x : List Equation). before t.names.entries (heaps_pieces 0 h0) x) (sym last.is)) in
+    let pair : FiresPair q e i start moment = subst (λ (z : List Piece). FiresPair q e i z moment) was
+    (fire_pair q i a b (planned c.args.plan.now) last.front e (table h1 (e.left.tag - 1)).arity
     (table h2 (e.right.tag - 1)).arity t1.names.entries h1 h2 h3 t1.registers.items c.take.new.registers.items
-    c.take-2.new.registers.items made.names made.made (map equated_of rest) end c.take.ensures.taken c.take-2.ensures.taken left_tag
-    right_tag ka kb number r0 made.names_count made.made_count made.name_tags made.made_tags fresh links
+    c.take-2.new.registers.items made.names made.made (map equated_of rest) c.take.ensures.taken c.take-2.ensures.taken left_tag
+    right_tag ka kb number r0 made.names_count made.made_count made.name_tags made.made_tags fresh) in
+    let pairs = subst (λ (z : List Piece). AllByRecursion IsPairPiece z) was
     (tables_of_pairs t1.names.entries h1 (last.front ++ e ∷ []) rest (subst (λ (x : List Equation). AllByRecursion IsPair x) last.is pending) aside) in
     record {
       moment = moment;
-      way = subst (λ (n : List Word). Way q (i ∷ []) (moment ∷ []) (before n (heaps_pieces 0 h0) t.pending.items) end)
-          c.prepare.ensures.names
-          (subst (λ (x : List Piece). Way q (i ∷ []) (moment ∷ []) (before t1.names.entries x t.pending.items) end)
-          (same_pieces h0 h1 0 same)
-          (subst (λ (x : List Equation). Way q (i ∷ []) (moment ∷ []) (before t1.names.entries (heaps_pieces 0 h1) x) end)
-          (sym last.is) after));
+      bare = λ front more es before after.
+          let left : c.pop.new.self.items ≡ front = popped_front t.pending.items c.pop.new.self.items front e before
+          (front_left d ∙ sym (popped_front t.pending.items (take (length t.pending.items - 1) t.pending.items) last.front e last.is refl)) in
+          let others : List Piece = names_pieces 0 t1.names.entries ++ (heaps_pieces 0 h3 ++ map equated_of es) in
+          let few = fresh_fewer (made.names ++ made.made) (names_pieces 0 t1.names.entries) (heaps_pieces 0 h3) c.pop.new.self.items es
+          (made.fresh es) in
+          let bare = fire_pair q i a b (planned c.args.plan.now) [] e (table h1 (e.left.tag - 1)).arity
+          (table h2 (e.right.tag - 1)).arity t1.names.entries h1 h2 h3 t1.registers.items c.take.new.registers.items
+          c.take-2.new.registers.items made.names made.made (map equated_of es) c.take.ensures.taken c.take-2.ensures.taken left_tag
+          right_tag ka kb number r0 made.names_count made.made_count made.name_tags made.made_tags few in
+          let apart : names_pieces 0 t1.names.entries ++ (heaps_pieces 0 h1 ++ map equated_of es)
+          ≡ names_pieces 0 t.names.entries ++ (heaps_pieces 0 h0 ++ map equated_of es) =
+          ap (λ (n : List Word). names_pieces 0 n ++ (heaps_pieces 0 h1 ++ map equated_of es)) c.prepare.ensures.names
+          ∙ ap (λ (x : List Piece). names_pieces 0 t.names.entries ++ (x ++ map equated_of es)) (same_pieces h0 h1 0 same) in
+          record {
+            middle = new ++ others;
+            pair = subst (λ (x : List Piece). FiresPair q e i (equated_of e ∷ x) (new ++ others)) apart
+                (pair_first q e i (names_pieces 0 t1.names.entries) (heaps_pieces 0 h1) (map equated_of es) (new ++ others) bare);
+            links = made.bare q (map equated_of es) more (after ∙ ap (λ (l : List Equation). l ++ more) (sym left));
+          };
+      way = (record { before = start; steps = no_step start start (IsPermutation-refl start); pairs = pairs; fires = pair.fires }, links);
       places = λ kind.
           let t3 : Tables = record t1 { heaps = c.take-2.new.heaps; pending = c.pop.new.self; registers = c.take-2.new.registers } in
           let was : size_at kind t3 ≡ size_at kind t =
@@ -317,6 +341,15 @@ returns-clause-fires c = λ q i a b rest left_tag right_tag arities number pendi
           (front_left d)
           (made.places kind rest ∙ ap (λ (k : ℕ). max k (in_use kind (new ++ others c.pop.new.self.items))) was);
     }
+
+pub returns-clause-pushed : goal.returns-clause-pushed
+returns-clause-pushed c = λ front is.
+    let d = (goal.at.returns-clause-pushed c).After-take-2 in
+    let left : c.pop.new.self.items ≡ front =
+    popped_front c.args.self.now.pending.items c.pop.new.self.items front c.args.pair is
+    (front_left d ∙ sym (popped_front c.args.self.now.pending.items (take (length c.args.self.now.pending.items - 1) c.args.self.now.pending.items)
+    c.requires.last.front c.args.pair c.requires.last.is refl)) in
+    subst (λ (l : List Equation). Pushed l c.make.new.self.pending.items) left c.make.ensures.pushed
 
 pub returns-in_err-prepare-clause-places : goal.returns-in_err-prepare-clause-places
 returns-in_err-prepare-clause-places c =

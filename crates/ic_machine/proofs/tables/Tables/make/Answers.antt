@@ -115,6 +115,17 @@ returns-clause-made c =
           (map (linked l) c.deref-2.result.now ++ (names_pieces 0 ns' ++ (map equated_of ps ++ others)))
           (names_pieces 0 ns'' ++ (map equated_of qs ++ others))) c.deref-3.ensures.value
           (c.link_each.ensures.steps q others))));
+      bare = λ q rest more is'. subst (λ (l : List Word). Steps q []
+          (pieces_made p l opened.names makes.places ++ (names_pieces 0 ns ++ (heaps_pieces 0 hs ++ rest)))
+          (names_pieces 0 ns'' ++ (heaps_pieces 0 hs' ++ (map equated_of more ++ rest)))) is
+          (made_steps q p p.names ns ns' ns'' hs hs' r0 r1 r2 [] (map equated_of more) rest opened makes
+          (λ others. subst (λ (l : List Link). Steps q []
+          (map (linked r2) l ++ (names_pieces 0 ns' ++ others)) (names_pieces 0 ns'' ++ (map equated_of more ++ others)))
+          c.deref-2.ensures.value
+          (subst (λ (l : List Word). Steps q []
+          (map (linked l) c.deref-2.result.now ++ (names_pieces 0 ns' ++ others))
+          (names_pieces 0 ns'' ++ (map equated_of more ++ others))) c.deref-3.ensures.value
+          (c.link_each.ensures.bare q others more is'))));
       places = λ kind rest. as_used t (record { names = c.link_each.new.names; heaps = c.make_agents.new.heaps; pending = c.link_each.new.pending; registers = c.make_agents.new.registers; spare = t.spare }) ns' hs' (c.link_each.ensures.names ∙ c.open_names.ensures.places)
           c.make_agents.ensures.places kind
           ∙ ap (max (size_at kind t))

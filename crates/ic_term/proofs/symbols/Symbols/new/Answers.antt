@@ -1,5 +1,5 @@
-use Rattle.ic_term.proofs.SymbolLemmas.{AreSymbols-empty}
+use Rattle.ic_term.proofs.KeyLemmas.{empty}
 use Rattle.ic_term.proofs.symbols.Symbols.new.Goals as goal
 
 pub invariant_of-result : goal.invariant_of-result
-invariant_of-result c = AreSymbols-empty c.new.result.entries c.new.ensures.len
+invariant_of-result c = empty c.new-entries.result.items c.new-numbers.result c.new-entries.ensures.items c.new-numbers.ensures.empty

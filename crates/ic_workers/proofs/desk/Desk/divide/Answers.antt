@@ -41,6 +41,6 @@ loop-preserved g c =
       come = come_on p (parts_at c.args.self.now) (parts_at before) (parts_at after) c.loop.invariant.come
           (come_on p (parts_at before) (parts_at divided) (parts_at after) both.0 c.in_ok-run_alone.ensures.come);
       desk = c.in_ok-run_alone.ensures.desk;
-      within = omega (arith, c.in_ok-run_alone.ensures.within, made, c.if-steps-bounds.false, c.loop.invariant.within);
+      within = omega (arith, c.in_ok-run_alone.ensures.within, made, c.if-steps-eq0.false, c.loop.invariant.within);
       next = omega (arith, c.in-Some.ensures, least, c.in_ok-run_alone.ensures.len);
     }

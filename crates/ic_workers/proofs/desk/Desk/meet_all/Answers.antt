@@ -1,8 +1,6 @@
-use Rattle.std.proofs.Common.{◌∙◌, ◌<◌, ℕ, length, refl, subst, sym, arith}
+use Rattle.std.proofs.Common.{◌∙◌, ◌<◌, ℕ, length, refl, subst, sym}
 use Rattle.std.specs.List.{AllByRecursion}
 use Rattle.ic_workers.proofs.Desks.{comes_on, comes_same}
-use Rattle.ic_workers.proofs.Lists.{one_of_all}
-use Rattle.ic_workers.proofs.Slots.{still_there}
 use Rattle.ic_workers.proofs.desk.Desk.meet_all.Goals as goal
 
 pub loop-place-init : goal.loop-place-init

@@ -1,4 +1,4 @@
-use Rattle.std.proofs.Common.{arith, refl}
+use Rattle.std.proofs.Common.{refl}
 use Rattle.ic_workers.specs.inner.Keeping.{parts_at}
 use Rattle.ic_workers.proofs.Desks.{come_same}
 use Rattle.ic_workers.proofs.Lists.{ok_then}

@@ -7,5 +7,5 @@ abbrev pub invariant-loop : goal.invariant-loop
 invariant-loop g l = record {
   come : Come l.program (parts_at l.initial.self) (parts_at l.self);
   desk : IsDesk l.program l.self;
-  within : l.self.made ≤ l.bounds.steps;
+  within : l.self.made ≤ l.most;
 }

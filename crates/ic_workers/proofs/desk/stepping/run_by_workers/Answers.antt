@@ -1,4 +1,4 @@
-use Rattle.std.proofs.Common.{◌≡◌, ℕ, List, length, map, ap, sym, ◌∙◌, subst}
+use Rattle.std.proofs.Common.{ℕ, List, length, map, ap, sym, ◌∙◌, subst}
 use Rattle.ic_rules.specs.RuleSet.{Rules}
 use Rattle.ic_meaning.specs.Plans.{ArePlansOf}
 use Rattle.ic_workers.proofs.desk.stepping.run_by_workers.Goals as goal

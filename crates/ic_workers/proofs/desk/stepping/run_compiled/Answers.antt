@@ -1,16 +1,12 @@
-use Rattle.std.proofs.Common.{rules, ◌≡◌, ◌+◌, ◌<◌, ◌≤◌, ◌^◌, ◌++◌, ℕ, List, length, map, ap, sym, ◌∙◌, arith, refl, subst}
-use Rattle.std.specs.List.{AllByRecursion}
+use Rattle.std.proofs.Common.{rules, ◌≡◌, ◌+◌, ◌<◌, ◌≤◌, ◌^◌, ℕ, List, length, ap, sym, ◌∙◌, arith, refl, subst}
 use Rattle.ic_rules.specs.RuleSet.{Rules}
 use Rattle.ic_rules.specs.System.{SystemParts}
-use Rattle.ic_machine.specs.Net.{Net}
 use Rattle.ic_machine.specs.Plan.{Plans, planned}
 use Rattle.ic_machine.specs.Runs.{IsStart}
-use Rattle.ic_meaning.specs.Plans.{ArePlansOf}
 use Rattle.ic_in_place.specs.Summing.{IsSummed}
-use Rattle.ic_in_place.specs.lemmas.Watched.{watched_ran}
 use Rattle.ic_workers.proofs.Begun.{first_part}
-use Rattle.ic_workers.proofs.Desks.{desk_begun, kept_begun, new_ends}
-use Rattle.ic_workers.proofs.Stopped.{all_of_first, come_so, compiled_so, few_named, few_so, first_used, first_worth, no_counts}
+use Rattle.ic_workers.proofs.Desks.{kept_begun, new_ends}
+use Rattle.ic_workers.proofs.Stopped.{come_so, compiled_so, few_so, first_worth, no_counts}
 use Rattle.ic_workers.proofs.desk.stepping.run_compiled.Goals as goal
 
 pub run_parts-requires-clause-fit : goal.run_parts-requires-clause-fit
@@ -22,8 +18,8 @@ run_parts-requires-clause-kept g c = λ κs outlives.
     let first = c.in_ok-first.first in
     kept_begun c.args.program.now (length first.given.items) (planned first.plan) first.interface.items c.in_ok-machine.machine c.in_ok-machine.ensures
 
-pub returns-clause-come : goal.returns-clause-come
-returns-clause-come g c =
+pub returns : goal.returns
+returns g c =
     let s : SystemParts = c.args.system.now in
     let p : Plans = c.args.program.now in
     let numbers : List ℕ = c.args.numbers.now in
@@ -44,13 +40,9 @@ returns-clause-come g c =
     sound.rules sound.over sound.names compiled.plans c.requires.plans compiled.free held begun.none
     (no_counts p (length first.given.items) (planned first.plan) first.interface.items c.in_ok-machine.machine begun)
     (kept_begun p (length first.given.items) (planned first.plan) first.interface.items c.in_ok-machine.machine begun).plans
-    (first_used s numbers p first.given.items (planned first.plan) first.interface.items c.in_ok-machine.machine begun
-    (c.what_a_machine_holds_is_reached.ensures.used s.rules numbers p s.config first.given.items (planned first.plan) first.interface.items c.in_ok-machine.machine
-    sound.rules sound.over sound.names compiled)) c.in_ok-machine-2.ensures.all in
-    let watched = run.ensures.watched in
-    let ran = watched_ran p c.args.bounds.nodes all run.new.machine watched in
+    c.in_ok-machine-2.ensures.all in
     let now = laws.ran s.rules numbers p s.config first.given.items all run.new.machine
-    sound.rules sound.over sound.names compiled.plans c.requires.plans compiled.free has ran.0 in
+    sound.rules sound.over sound.names compiled.plans c.requires.plans compiled.free has run.ensures.ran in
     let kept = c.in_ok-machine-2.ensures.kept in
     let counted : length c.in_ok-by_rule.by_rule.items ≡ length s.rules.rules =
     c.in_ok-by_rule.ensures.len ∙ ap length (c.rules-2.ensures.rules ∙ ap (λ (r : Rules). r.rules) (c.deref.ensures ∙ c.rules.ensures.rules)) in
@@ -58,17 +50,9 @@ returns-clause-come g c =
     subst (λ (n : ℕ). IsSummed n numbers run.new.machine.counts by_rule) counted
     (subst (λ (cs : List ℕ). IsSummed (length c.in_ok-by_rule.by_rule.items) numbers cs by_rule) c.fired.ensures c.sum_by_rule.ensures) in
     let low : run.new.machine.interactions < 2 ^ 64 = search rules in
-    let numbered : length numbers ≡ length p.plans = c.requires.numbers in
-    let many = ran.0.counted in
-    let few_names = few_named s.rules.rules all.names first.plan.names numbers numbers all.counts has.fired refl
-    (subst (λ (k : ℕ). AllByRecursion (λ i. i < k) has.fired) (sym numbered) has.known) (λ k there. has.counts k (omega (arith, there, numbered)))
-    (omega (arith, low, many, has.made)) (λ is known each few. sym c.if-not-few.false ∙ c.in_ok-few.ensures is known each few) in
     let made : all.interactions ≤ c.args.bounds.steps = c.in_ok-machine-2.ensures.within in
-    let left : c.args.bounds.steps ≡ all.interactions + c.saturating_sub.result = omega (arith, made, c.interactions-shared.ensures, c.saturating_sub.ensures) in
-    come_so s c.args.bounds numbers p first.given.items (planned first.plan) first.interface.items all run.new.machine run.result.0 run.result.1
-    sound arities compiled has c.interactions-shared.result c.interactions-shared.ensures kept.0 kept.1 c.what_a_machine_holds.ensures.room few_names now.0 watched (now.1 ∙ ap (λ (l : List ℕ). has.fired ++ l) ran.1) run.ensures.looked
-    (omega (arith, run.ensures.ends.within, left)) run.ensures.count run.ensures.enough
-    run.ensures.places run.ensures.pairs
-    (c.a_run_that_goes_on_stops_by_the_bounds_of_all.ensures c.args.bounds c.saturating_sub.result p all run.new.machine run.result.0 left
-    run.ensures.ends run.ensures.nodes run.ensures.looked)
+    let left : c.args.bounds.steps ≡ all.interactions + c.saturating_sub-left.result = omega (arith, made, c.interactions-shared.ensures, c.saturating_sub-left.ensures) in
+    come_so s c.args.bounds numbers p first.given.items (planned first.plan) first.interface.items all run.new.machine run.result
+    sound arities compiled kept.0 kept.1 now.0 run.ensures.ran (omega (arith, run.ensures.ends.within, left)) run.ensures.pairs
+    (c.a_run_that_goes_on_stops_by_the_bounds_of_all.ensures c.args.bounds c.saturating_sub-left.result p all run.new.machine run.result left run.ensures.ends)
     by_rule summed c.requires.numbers low

@@ -1,8 +1,0 @@
-use Rattle.ic_text.specs.SystemSource.{IsSystemPhrase, system_words}
-use Rattle.ic_text.specs.Words.{written_system}
-use Rattle.ic_text.specs.declared.limits.Limits.TheVariants.{Served}
-use Rattle.ic_text.specs.lemmas.PlacedWithin.{placed-within}
-use Rattle.ic_by_rounds.proofs.stream.shown_trace.Goals as goal
-
-pub refused-requires : goal.refused-requires
-refused-requires c = placed-within Served IsSystemPhrase system_words written_system c.args.text.now _ _ _ c.in-Err.ensures.placed

@@ -1,0 +1,65 @@
+//! What rounds did all together.
+
+use crate::row::Row;
+use std::alloc::{AllocError, Global};
+
+/// What rounds did all together. A number above 2^64 - 1 is told as 2^64 - 1.
+#[derive(Clone, Copy, Debug, PartialEq, Eq)]
+pub struct Summary {
+    /// How many rounds there were: the span.
+    pub rounds: u64,
+    /// How many pairs all of them fired: the work.
+    pub interactions: u64,
+    /// How many pairs one of them fired at most.
+    pub greatest: u64,
+    /// How many nodes there were at most, before the first round and after each.
+    pub nodes: u64,
+}
+
+impl Summary {
+    /// Of no round yet, where there are so many nodes.
+    pub(crate) fn new(nodes: u64) -> Summary {
+        Summary {
+            rounds: 0,
+            interactions: 0,
+            greatest: 0,
+            nodes,
+        }
+    }
+
+    /// The same with one round more.
+    pub(crate) fn with(self, row: Row) -> Summary {
+        Summary {
+            rounds: self.rounds.max(row.round),
+            interactions: self.interactions.saturating_add(row.pairs),
+            greatest: self.greatest.max(row.pairs),
+            nodes: self.nodes.max(row.nodes),
+        }
+    }
+
+    /// How many pairs a round fired on average, and the tenths of it.
+    pub(crate) fn average(self) -> (u64, u64) {
+        let tenths = u128::from(self.interactions) * 10 / u128::from(self.rounds.max(1));
+        ((tenths / 10) as u64, (tenths % 10) as u64)
+    }
+}
+
+/// The line that tells work, span, and how many pairs could fire at once.
+pub fn summary_line(alloc: Global, summary: Summary) -> Result<Vec<u8>, AllocError> {
+    let (work, span) = (summary.interactions, summary.rounds);
+    let (greatest, (whole, tenth)) = (summary.greatest, summary.average());
+    let line = format!(in alloc;
+        "icserve: work {work}, span {span}, pairs at once {whole}.{tenth} on average, {greatest} at most\n"
+    )?;
+    Ok(line.into_bytes())
+}
+
+/// The same as an object of JSON on a line.
+pub fn summary_object(alloc: Global, summary: Summary) -> Result<Vec<u8>, AllocError> {
+    let (work, span) = (summary.interactions, summary.rounds);
+    let (greatest, (whole, tenth)) = (summary.greatest, summary.average());
+    let line = format!(in alloc;
+        "{{\"work\":{work},\"span\":{span},\"average\":{whole}.{tenth},\"greatest\":{greatest}}}\n"
+    )?;
+    Ok(line.into_bytes())
+}

@@ -1,4 +1,0 @@
-pub mod Lines
-pub mod Stands
-pub mod Sights
-pub mod Telling

@@ -1,0 +1,246 @@
+-- Lemmas: rounds of a machine, one after the other.
+use Rattle.std.proofs.Common.{◌≡◌, ◌⊎◌, inl, inr, ℕ, zero, suc, ◌+◌, ◌≤◌, List, [], ◌∷◌, ◌++◌, length, take, drop, refl, sym, ap, arith, subst}
+use Rattle.std.specs.List.{AllByRecursion}
+use Rattle.std.specs.Prelude.{Contains}
+use Rattle.std.proofs.lemmas.List.{length-append}
+use Rattle.std.proofs.lemmas.List.Sorted.{Contains-permutation}
+use Rattle.ic_arena.specs.Piece.{Piece}
+use Rattle.ic_machine.specs.declared.equation.Equation.{Equation}
+use Rattle.ic_machine.specs.declared.generation.Generation.{Generation}
+use Rattle.ic_machine.specs.Generations.{Advances, Takes, beside, ended, fires, later, present, stays}
+use Rattle.ic_machine.specs.Net.{Net, HasNext, IsActive, IsAtPlace, IsStuck, equated_of}
+use Rattle.ic_machine.specs.Plan.{Plans}
+use Rattle.ic_machine.specs.Runs.{Ran}
+use Rattle.ic_machine.specs.lemmas.RunsOn.{ran_none, ran_none-fired, ran_on}
+use Rattle.ic_in_place.specs.declared.running.End.{End}
+use Rattle.ic_in_place.specs.declared.running.End.TheVariants.{Quiet, Steps}
+use Rattle.ic_meaning.specs.InPlace.{AreRounds, begun, goes_on, next_round}
+use Rattle.ic_in_place.specs.Rounds.{AreOver, AreTold, EndsAfter, FireAfterFirst, none_told, none_yet, one_told, some}
+use Rattle.ic_in_place.specs.Told.{RoundOver, IsBetween}
+use Rattle.ic_in_place.specs.inner.Rounds.{AreSomeActive, RoundBegins}
+
+-- ---- lists
+
+none_left : {X : Type 0} (k : ℕ) (xs : List X) → drop k (take k xs) ≡ []
+none_left zero xs = refl
+none_left (suc k) [] = refl
+none_left (suc k) (x ∷ xs) = none_left k xs
+
+all_taken : {X : Type 0} (xs : List X) → take (length xs) xs ≡ xs
+all_taken [] = refl
+all_taken (x ∷ xs) = ap (λ l. x ∷ l) (all_taken xs)
+
+-- ---- a pair that can fire is fired
+
+active_or_stuck : (p : Plans) (e : Equation) → IsActive p e → ¬ IsStuck p e
+active_or_stuck p e active stuck =
+    let none = stuck.no_plan active.left active.right active.left_tag active.right_tag active.left_known active.right_known in
+    let some = active.is in
+    cc
+
+among_others : (p : Plans) (es : List Equation) (d e : Equation) → IsActive p e → IsStuck p d → Contains (d ∷ es) e → Contains es e
+among_others p es d e active stuck (zero, few, same) =
+    absurd (active_or_stuck p e active (subst (IsStuck p) same stuck))
+among_others p es d e active stuck (suc k, few, same) = (k, omega (arith, few), same)
+
+takes_active : (p : Plans) (now left : List Equation) (is : List ℕ) (xs ys : List Piece) (e : Equation) → Takes p now left is xs ys
+    → left ≡ [] → Contains now e → IsActive p e → 1 ≤ length is
+takes_active p _ _ _ _ _ e (ended now left xs ys order t) none there active =
+    let found = Contains-permutation now left e order there in
+    absurd (omega (arith, found.1, ap (length {A = Equation}) none))
+takes_active p _ _ _ _ _ e (fires d now es left i is xs before after ys order t f r) none there active = omega arith
+takes_active p _ _ _ _ _ e (stays d now es left is xs before ys order t stuck r) none there active =
+    takes_active p es left is (equated_of d ∷ before) ys e r none
+    (among_others p es d e active stuck (Contains-permutation now (d ∷ es) e order there)) active
+
+-- ---- one round more
+
+advanced_active : (p : Plans) (g h : Generation) (old new : Net) (a : Advances p g h old new) → h.place ≡ h.end
+    → AreSomeActive p (present g old.pending) → 1 ≤ length a.ran.fired
+advanced_active p g h old new a over active =
+    takes_active p (present g old.pending) (present h new.pending) a.ran.fired (beside (later g old.pending) old)
+    (beside (later h new.pending) new) active.0 a.takes
+    (subst (λ (k : ℕ). drop k (take h.end new.pending) ≡ []) (sym over) (none_left h.end new.pending)) active.1 active.2
+
+each_more : (ms : List (List ℕ)) (fired : List ℕ) → AllByRecursion (λ f. 1 ≤ length f) ms → 1 ≤ length fired
+    → AllByRecursion (λ f. 1 ≤ length f) (ms ++ fired ∷ [])
+each_more [] fired all one = (one, tt)
+each_more (n ∷ ns) fired all one = (all.0, each_more ns fired all.1 one)
+
+fire_more : (made : List (List ℕ)) (fired : List ℕ) → FireAfterFirst made → (made ≡ []) ⊎ (1 ≤ length fired)
+    → FireAfterFirst (made ++ fired ∷ [])
+fire_more [] fired firing one = tt
+fire_more (m ∷ made) fired firing (inl none) = absurd (cc none)
+fire_more (m ∷ made) fired firing (inr one) = each_more made fired firing one
+
+some_fires : (p : Plans) (pairs rounds : ℕ) (g h : Generation) (first old new : Net) → RoundBegins p pairs rounds g first old
+    → (a : Advances p g h old new) → h.place ≡ h.end → (made : List (List ℕ))
+    → (made ≡ []) ⊎ AreSomeActive p (present g old.pending) → (made ≡ []) ⊎ (1 ≤ length a.ran.fired)
+some_fires p pairs rounds g h first old new b a over made (inl none) = inl none
+some_fires p pairs rounds g h first old new b a over made (inr active) = inr (advanced_active p g h old new a over active)
+
+-- what is told as one round more is over
+abbrev pub told_next : List RoundOver → (rounds fired : ℕ) → Net → List RoundOver
+told_next told rounds fired m = told ++ record { round = rounds + 1; pairs = fired; net = m } ∷ []
+
+-- it is told by the numbers that a round has
+pub told_over : (T : List RoundOver → Type 0) (told : List RoundOver) (round pairs rounds fired : ℕ) (m : Net)
+    → T (told ++ record { round = round + 1; pairs = pairs; net = m } ∷ []) → round ≡ rounds → pairs ≡ fired → T (told_next told rounds fired m)
+told_over T told round pairs rounds fired m holds same many = subst T (λ i. told_next told (same i) (many i) m) holds
+
+-- as many are told as are over
+pub as_many_told : (p : Plans) (first : Net) (pairs : ℕ) (made : List (List ℕ)) (told : List RoundOver) → AreTold p first pairs made told
+    → length told ≡ length made
+as_many_told p first pairs made told none_told = refl
+as_many_told p first pairs made told (one_told over fired so_far m are done between) =
+    let rest = as_many_told p first pairs over so_far are in
+    let one : length (told_next so_far (length over) (length fired) m) ≡ length so_far + 1 =
+    length-append so_far (record { round = length over + 1; pairs = length fired; net = m } ∷ []) in
+    let other : length (over ++ fired ∷ []) ≡ length over + 1 = length-append over (fired ∷ []) in
+    omega (arith, rest, one, other)
+
+-- What is known as a round is over.
+pub record RoundIsOver (p : Plans) (pairs rounds : ℕ) (g h : Generation) (first old new : Net)
+    (b : RoundBegins p pairs rounds g first old) (a : Advances p g h old new) : Type 0 where
+  pub are : AreRounds p first pairs b.made a.ran.fired h new
+  pub over : AreOver p first pairs (b.made ++ a.ran.fired ∷ []) new
+  pub count : rounds + 1 ≡ length (b.made ++ a.ran.fired ∷ [])
+  pub firing : FireAfterFirst (b.made ++ a.ran.fired ∷ [])
+  pub are_told : AreTold p first pairs (b.made ++ a.ran.fired ∷ []) (told_next b.told (length b.made) (length a.ran.fired) new)
+
+pub is_over : (p : Plans) (pairs rounds : ℕ) (g h : Generation) (first old new : Net) (b : RoundBegins p pairs rounds g first old)
+    (a : Advances p g h old new) → h.place ≡ h.end → IsBetween new → RoundIsOver p pairs rounds g h first old new b a
+is_over p pairs rounds g h first old new b a over between =
+    let are : AreRounds p first pairs b.made a.ran.fired h new = goes_on b.made [] g h old new b.are a in
+    let many : length (b.made ++ a.ran.fired ∷ []) ≡ length b.made + 1 = length-append b.made (a.ran.fired ∷ []) in
+    let done : AreOver p first pairs (b.made ++ a.ran.fired ∷ []) new = some b.made a.ran.fired h new are over in
+    record {
+      are = are;
+      over = done;
+      are_told = one_told b.made a.ran.fired b.told new b.are_told done between;
+      count = omega (arith, many, b.count);
+      firing = fire_more b.made a.ran.fired b.firing (some_fires p pairs rounds g h first old new b a over b.made b.active);
+    }
+
+-- the first round begins
+pub first_begins : (p : Plans) (pairs : ℕ) (m : Net) → pairs ≤ length m.pending → (P : List RoundOver → Type 0) → P []
+    → (b : RoundBegins p pairs 0 (record { place = 0; end = pairs }) m m) × P b.told
+first_begins p pairs m few P holds = (
+  record {
+    made = [];
+    are = begun;
+    over = none_yet;
+    count = refl;
+    firing = tt;
+    told = [];
+    are_told = none_told;
+    active = inl refl;
+    within = record { place = omega arith; end = few };
+    ran = ran_none p m;
+  },
+  holds,
+)
+
+-- the next round begins, if a pair can fire
+pub next_begins : (p : Plans) (pairs rounds : ℕ) (g h : Generation) (first old new : Net) (b : RoundBegins p pairs rounds g first old)
+    (a : Advances p g h old new) → h.place ≡ h.end → IsBetween new → AreSomeActive p new.pending
+    → (P : List RoundOver → Type 0) → P (told_next b.told (length b.made) (length a.ran.fired) new)
+    → (next : RoundBegins p pairs (rounds + 1) (record { place = 0; end = length new.pending }) first new) × P next.told
+next_begins p pairs rounds g h first old new b a over between active P holds =
+    let done = is_over p pairs rounds g h first old new b a over between in
+    let next : RoundBegins p pairs (rounds + 1) (record { place = 0; end = length new.pending }) first new = record {
+      made = b.made ++ a.ran.fired ∷ [];
+      are = next_round b.made a.ran.fired h new done.are over between.places;
+      over = done.over;
+      count = done.count;
+      firing = done.firing;
+      told = told_next b.told (length b.made) (length a.ran.fired) new;
+      are_told = done.are_told;
+      active = inr (subst (AreSomeActive p) (sym (all_taken new.pending)) active);
+      within = record { place = omega arith; end = omega arith };
+      ran = ran_on p first old new b.ran a.ran;
+    } in
+    (next, holds)
+
+-- ---- ends
+
+neither : (end : End) {A : Type 0} → ¬ (end ≡ Quiet) → ¬ (end ≡ Steps) → (end ≡ Quiet) ⊎ (end ≡ Steps) → A
+neither end quiet steps (inl is) = absurd (quiet is)
+neither end quiet steps (inr is) = absurd (steps is)
+
+-- Within a round.
+pub ends_within : (p : Plans) (pairs most rounds : ℕ) (end : End) (g h : Generation) (first old new : Net)
+    → (b : RoundBegins p pairs rounds g first old) → Advances p g h old new → rounds ≤ most → ¬ (end ≡ Quiet) → ¬ (end ≡ Steps)
+    → (P : List RoundOver → Type 0) → P b.told → (ends : EndsAfter p pairs most rounds end first new) × P ends.told
+ends_within p pairs most rounds end g h first old new b a few quiet steps P holds = (
+  record {
+    made = b.made;
+    last = old;
+    over = b.over;
+    count = b.count;
+    within = few;
+    firing = b.firing;
+    told = b.told;
+    are_told = b.are_told;
+    ran = ran_on p first old new b.ran a.ran;
+    since = a.ran;
+    whole = neither end quiet steps;
+    quiet = λ is. absurd (quiet is);
+    some = λ is. absurd (quiet is);
+    all = λ is. absurd (steps is);
+    more = λ is. absurd (steps is);
+  },
+  holds,
+)
+
+-- As a round is over, and no pair is left that can fire.
+pub ends_quiet : (p : Plans) (pairs most rounds : ℕ) (g h : Generation) (first old new : Net)
+    → (b : RoundBegins p pairs rounds g first old) → (a : Advances p g h old new) → h.place ≡ h.end → rounds + 1 ≤ most
+    → IsBetween new → AllByRecursion (IsStuck p) new.pending → (P : List RoundOver → Type 0) → P (told_next b.told (length b.made) (length a.ran.fired) new)
+    → (ends : EndsAfter p pairs most (rounds + 1) Quiet first new) × P ends.told
+ends_quiet p pairs most rounds g h first old new b a over few between stuck P holds =
+    let done = is_over p pairs rounds g h first old new b a over between in (
+      record {
+        made = b.made ++ a.ran.fired ∷ [];
+        last = new;
+        over = done.over;
+        count = done.count;
+        within = few;
+        firing = done.firing;
+        told = told_next b.told (length b.made) (length a.ran.fired) new;
+        are_told = done.are_told;
+        ran = ran_on p first old new b.ran a.ran;
+        since = ran_none p new;
+        whole = λ is. ran_none-fired p new;
+        quiet = λ is. stuck;
+        some = λ is one. omega arith;
+        all = λ is. absurd (cc is);
+        more = λ is. absurd (cc is);
+      },
+      holds,
+    )
+
+-- As all rounds are over.
+pub ends_all : (p : Plans) (pairs most : ℕ) (end : End) (g : Generation) (first last new : Net) → (b : RoundBegins p pairs most g first last)
+    → (ran : Ran p last new) → ran.fired ≡ [] → (end ≡ Quiet → AllByRecursion (IsStuck p) new.pending)
+    → (end ≡ Steps → HasNext p new.pending) → (P : List RoundOver → Type 0) → P b.told → (ends : EndsAfter p pairs most most end first new) × P ends.told
+ends_all p pairs most end g first last new b ran none quiet more P holds = (
+  record {
+    made = b.made;
+    last = last;
+    over = b.over;
+    count = b.count;
+    within = omega arith;
+    firing = b.firing;
+    told = b.told;
+    are_told = b.are_told;
+    ran = ran_on p first last new b.ran ran;
+    since = ran;
+    whole = λ is. none;
+    quiet = quiet;
+    some = λ is one. one;
+    all = λ is. refl;
+    more = more;
+  },
+  holds,
+)

@@ -1,0 +1,40 @@
+use Rattle.std.proofs.Common.{rules, ◌≡◌, ◌<◌, ◌^◌, ℕ, List, length, ap, ◌∙◌, subst, sym}
+use Rattle.ic_rules.specs.RuleSet.{Rules}
+use Rattle.ic_machine.specs.Plan.{planned, IsPlan}
+use Rattle.ic_meaning.specs.First.{LinksPairsFirst}
+use Rattle.ic_in_place.specs.Summing.{IsSummed}
+use Rattle.ic_in_place.specs.Told.{RoundOver}
+use Rattle.ic_in_place.proofs.Rounding.{rounded_so}
+use Rattle.ic_in_place.proofs.rounded.round_compiled.Goals as goal
+
+pub returns-clause-made : goal.returns-clause-made
+returns-clause-made g c =
+    let p = c.args.program.now in
+    let numbers = c.args.numbers.now in
+    let first = c.in_ok-first.first in
+    let run = c.run_by_rounds in
+    let by_rule = c.sum_by_rule.new.by_rule.items in
+    let counted : length c.in_ok-by_rule.by_rule.items ≡ length c.args.system.now.rules.rules =
+    c.in_ok-by_rule.ensures.len ∙ ap length (c.rules-2.ensures.rules ∙ ap (λ (r : Rules). r.rules) (c.deref.ensures ∙ c.rules.ensures.rules)) in
+    let summed : IsSummed (length c.args.system.now.rules.rules) numbers run.new.machine.counts by_rule =
+    subst (λ (n : ℕ). IsSummed n numbers run.new.machine.counts by_rule) counted
+    (subst (λ (cs : List ℕ). IsSummed (length c.in_ok-by_rule.by_rule.items) numbers cs by_rule) c.fired.ensures c.sum_by_rule.ensures) in
+    let low : run.new.machine.interactions < 2 ^ 64 = search rules in
+    let P : List ℕ → List RoundOver → Type 0 = λ ns told. g.S.Rows.tells c.args.system.now ns c.args.rows.now run.new.rows
+    (g.W.Write.contents c.args.writer.now) (g.W.Write.contents run.new.writer) told in
+    rounded_so c.what_a_machine_holds_after_rounds.ensures c.args.system.now c.args.bounds.rounds c.in_ok-end.rounds c.args.bounds.nodes numbers p first.given.items
+    (planned first.plan) first.interface.items c.in_ok-first.pairs c.in_ok-machine.machine run.new.machine c.in_ok-end.end c.systems_are_sound.ensures
+    c.requires.arities c.requires.sound c.requires.plans c.in_ok-first.ensures.start c.in_ok-first.ensures.stands c.in_ok-first.ensures.given
+    (subst (λ (a : List ℕ). LinksPairsFirst a (length first.given.items) (planned first.plan) c.in_ok-first.pairs) (sym c.requires.arities) c.in_ok-first.ensures.pairs)
+    c.in_ok-machine.ensures c.in_ok-end.ensures.ended.0 c.what_a_machine_holds.ensures.pairs by_rule summed c.requires.numbers low P
+    (c.in_ok-end.ensures.ended.1 c.args.system.now numbers c.args.rows.now (g.W.Write.contents c.args.writer.now)
+    (c.in_ok-begin.ensures.none (g.W.Write.contents c.args.writer.now)))
+
+pub run_by_rounds-requires-clause-within : goal.run_by_rounds-requires-clause-within
+run_by_rounds-requires-clause-within g c =
+    let first = c.in_ok-first.first in
+    let plan = planned first.plan in
+    let is_plan = subst (λ (a : List ℕ). IsPlan a (length first.given.items) plan) (sym c.requires.arities) c.in_ok-first.ensures.start.plan in
+    let firsts = subst (λ (a : List ℕ). LinksPairsFirst a (length first.given.items) plan c.in_ok-first.pairs) (sym c.requires.arities) c.in_ok-first.ensures.pairs in
+    (c.the_first_pairs_are_pending_first.ensures.within (length first.given.items) c.args.program.now plan first.interface.items c.in_ok-machine.machine c.in_ok-first.pairs
+    is_plan firsts c.in_ok-machine.ensures.starts).end

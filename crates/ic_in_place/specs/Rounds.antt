@@ -1,0 +1,109 @@
+-- Rounds of a machine, and of a text.
+use Rattle.std.specs.Prelude.{◌≡◌, ◌⊎◌, ℕ, ◌+◌, ◌≤◌, List, [], ◌∷◌, ◌++◌, Option, Some, Ok, Err, length}
+use Rattle.std.specs.Io.KnownBytes.{Appends}
+use Rattle.std.specs.List.{AllByRecursion}
+use Rattle.ic_rules.specs.System.{SystemParts}
+use Rattle.ic_round.specs.Rounds.{iterate}
+use Rattle.ic_text.specs.SystemText.{ReadsSystemWithin}
+use Rattle.ic_text.specs.declared.limits.Limits.{Limits}
+use Rattle.ic_streams.specs.Streams.{Answering, answering}
+use Rattle.ic_machine.specs.declared.generation.Generation.{Generation}
+use Rattle.ic_machine.specs.Net.{Net, HasNext, IsStuck}
+use Rattle.ic_machine.specs.Plan.{Plans}
+use Rattle.ic_machine.specs.Runs.{Ran}
+use Rattle.ic_meaning.specs.First.{LinksPairsFirst}
+use Rattle.ic_meaning.specs.Generations.{FireAsRounds}
+use Rattle.ic_meaning.specs.InPlace.{AreRounds}
+use Rattle.ic_in_place.specs.Holding.{IsNetOf}
+use Rattle.ic_in_place.specs.Reductions.{EndsOf}
+use Rattle.ic_in_place.specs.Stopping.{HasCome, IsBegun}
+use Rattle.ic_in_place.specs.Told.{RoundOver, IsBetween}
+use Rattle.ic_in_place.specs.declared.running.Bounds.{Bounds}
+use Rattle.ic_in_place.specs.declared.running.End.{End}
+use Rattle.ic_in_place.specs.declared.running.End.TheVariants.{Quiet, Steps}
+use Rattle.ic_in_place.specs.declared.stream.Asked.{Asked}
+use Rattle.ic_in_place.specs.declared.rounded.Rounded.{Rounded}
+use Rattle.ic_in_place.specs.declared.stream.Outcome.{Outcome}
+
+-- Rounds are over, none or several, and this is the net then. In each of them pairs fired by these plans.
+pub data AreOver (p : Plans) (first : Net) (pairs : ℕ) : List (List ℕ) → Net → Type 0 where
+  none_yet : AreOver p first pairs [] first
+  some : (over : List (List ℕ)) (last : List ℕ) (g : Generation) (m : Net) → AreRounds p first pairs over last g m
+      → g.place ≡ g.end → AreOver p first pairs (over ++ last ∷ []) m
+
+-- This is told of rounds, by the plans that fired in each: their numbers from 1 on, how many pairs fired, and the nets.
+pub data AreTold (p : Plans) (first : Net) (pairs : ℕ) : List (List ℕ) → List RoundOver → Type 0 where
+  none_told : AreTold p first pairs [] []
+  one_told : (made : List (List ℕ)) (fired : List ℕ) (told : List RoundOver) (m : Net)
+      → AreTold p first pairs made told → AreOver p first pairs (made ++ fired ∷ []) m → IsBetween m
+      → AreTold p first pairs (made ++ fired ∷ [])
+      (told ++ record { round = length made + 1; pairs = length fired; net = m } ∷ [])
+
+-- a pair fired in each round but the first
+abbrev pub FireAfterFirst : List (List ℕ) → Type 0
+FireAfterFirst [] = Unit {0}
+FireAfterFirst (first ∷ others) = AllByRecursion (λ fired. 1 ≤ length fired) others
+
+-- So many rounds are over, at most as many as may be made, and they are told. At a quiet end no pair is left that could fire. Where as many were
+-- made as may be, the last pair that is left can fire. In both cases no pair has fired since. Any other end comes within a
+-- round, or as it is over.
+pub record EndsAfter (p : Plans) (pairs most rounds : ℕ) (end : End) (first new : Net) : Type 0 where
+  pub made : List (List ℕ)
+  pub last : Net
+  pub over : AreOver p first pairs made last
+  pub count : rounds ≡ length made
+  pub within : rounds ≤ most
+  pub firing : FireAfterFirst made
+  pub told : List RoundOver
+  pub are_told : AreTold p first pairs made told
+  pub ran : Ran p first new
+  pub since : Ran p last new
+  pub whole : (end ≡ Quiet) ⊎ (end ≡ Steps) → since.fired ≡ []
+  pub quiet : end ≡ Quiet → AllByRecursion (IsStuck p) new.pending
+  pub some : end ≡ Quiet → 1 ≤ most → 1 ≤ rounds
+  pub all : end ≡ Steps → rounds ≡ most
+  pub more : end ≡ Steps → HasNext p new.pending
+
+-- A machine began with the configuration of a system, whose equations of two agents are pending first. So many rounds of it are
+-- over, at most as many as may be made, and each has fired as many pairs by each rule as the round does. If none has fired since,
+-- the machine holds the net of the configuration after these.
+pub record HasRounded (s : SystemParts) (most rounds : ℕ) (given by_rule : List ℕ) (m : Net) (end : End) : Type 0 where
+  pub bounds : Bounds
+  pub come : HasCome s bounds given by_rule m end
+  pub first : Net
+  pub begun : IsBegun come.plans (length given) come.plan come.operands first
+  pub pairs : ℕ
+  pub firsts : LinksPairsFirst come.plans.arities (length given) come.plan pairs
+  pub ends : EndsAfter come.plans pairs most rounds end first m
+  pub net : (end ≡ Quiet) ⊎ (end ≡ Steps) → IsNetOf come.held.numbers m (iterate s.rules.rules rounds s.config)
+  pub rules : FireAsRounds s.rules.rules come.rule_numbers ends.made s.config
+
+-- Of a text in which no step is possible no round is made, although the pairs of one were taken.
+pub record CountsRounds (outcome : Outcome) (taken rounds : ℕ) : Type 0 where
+  pub none : outcome.end ≡ Quiet → outcome.interactions ≡ 0 → outcome.name_steps ≡ Some 0 → rounds ≡ 0
+  pub all : ¬ ((outcome.end ≡ Quiet) × (outcome.interactions ≡ 0) × (outcome.name_steps ≡ Some 0)) → rounds ≡ taken
+
+-- A text is read as a system with these limits, of which a machine made so many rounds. This is the line of the net then, and
+-- this tells of it.
+pub record EndsByRounds (limits : Limits) (most : ℕ) (asked : Asked) (input : List ℕ)
+    (reached : Rounded) (line : List ℕ) : Type 0 where
+  pub system : SystemParts
+  pub reads : ReadsSystemWithin limits input (Ok system)
+  pub given : List ℕ
+  pub machine : Net
+  pub taken : ℕ
+  pub rounded : HasRounded system most taken given reached.outcome.by_rule.items machine reached.outcome.end
+  pub ends : EndsOf system rounded.bounds asked reached.outcome line
+  pub net : IsNetOf rounded.come.held.numbers machine ends.answer
+  pub count : CountsRounds reached.outcome taken reached.rounds
+
+-- the answers of reducing by at most so many rounds
+abbrev pub ReducesByRounds : Limits → (most : ℕ) → Asked → Answering
+ReducesByRounds limits most asked = answering (λ input fault. ReadsSystemWithin limits input (Err fault))
+    (λ input line. (reached : Rounded) × EndsByRounds limits most asked input reached line)
+
+-- the line is appended, if one is asked for
+abbrev pub AppendsLineOf : Limits → (most : ℕ) → Asked → List ℕ → Rounded → Option (List ℕ)
+    → Option (List ℕ) → Type 0
+AppendsLineOf limits most asked input reached old new =
+    (line : List ℕ) × EndsByRounds limits most asked input reached line × Appends old new line

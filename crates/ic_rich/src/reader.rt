@@ -1,0 +1,203 @@
+//! Reading the tokens of a rule by an arrow.
+
+use crate::fault::{Reason, RichFault};
+use crate::spans::{Equation, Span};
+use crate::tokens::{Kind, Token};
+use std::alloc::Global;
+
+/// A place among the tokens of a rule.
+#[derive(Drop)]
+pub(crate) struct Reader<'r, 't> {
+    tokens: &'r [Token<'t>],
+    next: usize,
+    /// The place at which the rule ends.
+    end: usize,
+}
+
+/// What closes an open mark of a term.
+#[derive(Clone, Copy, Debug, PartialEq, Eq)]
+enum Open {
+    Arguments,
+}
+
+impl<'r, 't> Reader<'r, 't> {
+    pub(crate) fn new(tokens: &'r [Token<'t>], end: usize) -> Reader<'r, 't> {
+        Reader {
+            tokens,
+            next: 0,
+            end,
+        }
+    }
+
+    /// What the next token is.
+    fn kind(&self) -> Kind {
+        match self.tokens.get(self.next) {
+            Some(token) => token.kind,
+            None => Kind::End,
+        }
+    }
+
+    /// Goes on to the token after the next one.
+    fn pass(&mut self) {
+        self.next = self.next.saturating_add(1);
+    }
+
+    /// Goes on after a mark, if it is the next token.
+    fn takes(&mut self, mark: u8) -> bool {
+        let is_next = self.kind() == Kind::Mark(mark);
+        if is_next {
+            self.pass();
+        }
+        is_next
+    }
+
+    /// The refusal of what stands here.
+    fn refused(&self, reason: Reason) -> RichFault {
+        let at = match self.tokens.get(self.next) {
+            Some(token) => token.at,
+            None => self.end,
+        };
+        RichFault::Refused(reason, at)
+    }
+
+    /// A side of the rule: the place of its symbol, and those of the names that are its arguments.
+    pub(crate) fn side(&mut self, alloc: Global) -> Result<(usize, Vec<usize>), RichFault> {
+        let symbol = self.next;
+        let mut names = Vec::new(alloc);
+        if self.kind() != Kind::Symbol {
+            return Err(self.refused(Reason::NoSide));
+        }
+        self.pass();
+        if !self.takes(b'(') {
+            return Ok((symbol, names));
+        }
+        for _ in 0..=self.tokens.len() {
+            names.push(self.name()?)?;
+            if !self.takes(b',') {
+                break;
+            }
+        }
+        if self.takes(b')') {
+            Ok((symbol, names))
+        } else {
+            Err(self.refused(Reason::NoClosing))
+        }
+    }
+
+    /// The place of a name.
+    fn name(&mut self) -> Result<usize, RichFault> {
+        let place = self.next;
+        if self.kind() == Kind::Name {
+            self.pass();
+            Ok(place)
+        } else {
+            Err(self.refused(Reason::NoName))
+        }
+    }
+
+    /// The `><` between the two sides.
+    pub(crate) fn meeting(&mut self) -> Result<(), RichFault> {
+        if self.takes(b'>') && self.takes(b'<') {
+            Ok(())
+        } else {
+            Err(self.refused(Reason::NoMeeting))
+        }
+    }
+
+    /// The place of the `=>` after the second side.
+    pub(crate) fn arrow(&mut self) -> Result<usize, RichFault> {
+        let place = self.next;
+        if self.kind() == Kind::Arrow {
+            self.pass();
+            Ok(place)
+        } else {
+            Err(self.refused(Reason::NoArrow))
+        }
+    }
+
+    /// The equations up to the end of the rule, after whose last one a `,` may stand.
+    pub(crate) fn equations(&mut self, alloc: Global) -> Result<Vec<Equation>, RichFault> {
+        let mut equations = Vec::new(alloc);
+        for _ in 0..=self.tokens.len() {
+            if self.kind() == Kind::End {
+                break;
+            }
+            equations.push(self.equation(alloc)?)?;
+            if !self.takes(b',') && self.kind() != Kind::End {
+                return Err(self.refused(Reason::NoEnd));
+            }
+        }
+        Ok(equations)
+    }
+
+    fn equation(&mut self, alloc: Global) -> Result<Equation, RichFault> {
+        let left = self.term(alloc)?;
+        if !self.takes(b'~') && !self.takes(b'=') {
+            return Err(self.refused(Reason::NoSign));
+        }
+        let right = self.term(alloc)?;
+        Ok(Equation { left, right })
+    }
+
+    /// Reads a term, after which nothing stands.
+    pub(crate) fn only_term(&mut self, alloc: Global) -> Result<(), RichFault> {
+        self.term(alloc)?;
+        if self.kind() == Kind::End {
+            Ok(())
+        } else {
+            Err(self.refused(Reason::NoLetEnd))
+        }
+    }
+
+    /// The tokens of a term.
+    fn term(&mut self, alloc: Global) -> Result<Span, RichFault> {
+        let from = self.next;
+        let mut open = Vec::new(alloc);
+        let mut wanted = true;
+        for _ in 0..=self.tokens.len() {
+            if !wanted && open.is_empty() {
+                break;
+            }
+            wanted = if wanted {
+                self.begin(&mut open)?
+            } else {
+                self.go_on(&mut open)?
+            };
+        }
+        Ok(Span {
+            from,
+            to: self.next,
+        })
+    }
+
+    /// Reads a name, a symbol, or a symbol and the mark that opens its arguments. It answers whether a term is to
+    /// follow.
+    fn begin(&mut self, open: &mut Vec<Open>) -> Result<bool, RichFault> {
+        match self.kind() {
+            Kind::Name => {
+                self.pass();
+                Ok(false)
+            }
+            Kind::Symbol => {
+                self.pass();
+                let has_arguments = self.takes(b'(');
+                if has_arguments {
+                    open.push(Open::Arguments)?;
+                }
+                Ok(has_arguments)
+            }
+            _ => Err(self.refused(Reason::NoTerm)),
+        }
+    }
+
+    /// Reads what follows a term within another one. It answers whether a term is to follow.
+    fn go_on(&mut self, open: &mut Vec<Open>) -> Result<bool, RichFault> {
+        if self.takes(b',') {
+            return Ok(true);
+        }
+        match open.pop() {
+            Some(Open::Arguments) if self.takes(b')') => Ok(false),
+            _ => Err(self.refused(Reason::NoClosing)),
+        }
+    }
+}

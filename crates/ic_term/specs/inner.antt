@@ -1,0 +1,2 @@
+-- What only private functions and invariants cite.
+pub mod Keys

@@ -1,0 +1,202 @@
+"""Texts of any size that `cluster/large` reduces and keeps, under an engine that is stopped again and again."""
+
+import json
+import os
+import shutil
+import signal
+import sys
+import time
+
+from program import IN_MEMORY, PROGRAM, TOP, run
+from shards import SCRIPTS, Shards, kill
+
+sys.path.insert(0, str(TOP / "bench"))
+
+from systems import ACKERMANN, FIBONACCI, numeral  # noqa: E402
+
+# Equations of which a pair is left, and none.
+STUCK = ",Stop(z)=Wait(z)"
+
+# A net that never ends.
+LOOP = "{A(B(x))><B(A(x))} <|A(x)=B(x)>"
+
+# Stands for icserve: what is begun has written a first byte, and then takes long.
+SLOW = """#!/bin/sh
+case $2 in --keep) printf x >"$3" && exec sleep 60 ;; esac
+exec {program} "$@"
+"""
+
+# Stands for icserve: a text ends as soon as what is kept of it is looked at.
+ENDS = """#!/bin/sh
+ICSERVE={program} {large} texts/one.ic
+exec {program} "$@"
+"""
+
+
+def drawn_text(draw):
+    """A system of 10^6 to 10^7 interactions, whose answer has no names, and whether a pair is left."""
+    stuck = STUCK if draw.random() < 0.3 else ""
+    if draw.random() < 0.5:
+        return f"{FIBONACCI} <r|F(r)={numeral(draw.randint(24, 27))}{stuck}>"
+    one, two = draw.choice([(3, 8), (2, draw.randint(800, 1500))])
+    return f"{ACKERMANN} <r|Ack(r,{numeral(two)})={numeral(one)}{stuck}>"
+
+
+class Large(Shards):
+    seconds = 60
+    rooms = IN_MEMORY
+
+    def write(self, texts, folder="texts"):
+        (self.room / folder).mkdir()
+        for name, text in texts.items():
+            (self.room / folder / f"{name}.ic").write_text(text + "\n")
+
+    def unbroken(self, name, text):
+        """What `gather` prints of a text that is reduced without a stop, and its figures."""
+        ran = run("reduce", "--workers", "1", "--stats", "--format", "json", given=text, seconds=120)
+        figures = next(json.loads(it) for it in ran.err.decode().splitlines() if it.startswith("{"))
+        state = "stuck" if figures["stuck"] else "done"
+        return f"{name} {state} {figures['interactions']} {ran.out.decode().strip()}", figures
+
+    def test_40_texts_killed_at_ten_moments_end_as_unbroken_runs(self):
+        draw = self.draws()
+        texts = {f"text{it:02}": drawn_text(draw) for it in range(40)}
+        self.write(texts)
+        large = f"{SCRIPTS}/large {{}} --seconds 1 --workers {draw.choice((1, 2, 4))}"
+        command = f"parallel --will-cite --jobs 4 {large} ::: texts/*.ic" if shutil.which("parallel") else f"ls texts/*.ic | xargs -P 4 -I {{}} {large}"
+        killed = 0
+        for moment in range(10):
+            with self.engine("sh", "-c", command) as engine:
+                answered = lambda: len(list((self.room / "texts").glob("*.answer")))  # noqa: E731
+                self.waits_for(lambda: engine.ended() is not None or answered() >= 4 * moment, 120)
+                time.sleep(0.3 * draw.random())
+                killed += engine.ended() is None
+                if moment % 3 == 1:
+                    engine.kill_shells("large")
+                elif moment % 3 == 2:
+                    for number, _, words in engine.left():
+                        if words[0] == PROGRAM.encode():
+                            kill(number)
+                    engine.end()
+        self.ends_well(lambda: self.engine("sh", "-c", command))
+        self.equals("40 texts", f"at least eight kills in their midst: {killed}", True, killed >= 8)
+        wanted = {name: self.unbroken(name, text) for name, text in texts.items()}
+        self.ended(self.script("gather", "texts"), out=[line for line, _ in wanted.values()])
+        for name, (_, figures) in wanted.items():
+            came = json.loads((self.room / f"texts/{name}.ic.figures").read_text())
+            self.equals(name, "interactions by rule and the stuck pair", (figures["by_rule"], figures["stuck"]), (came["by_rule"], came["stuck"]))
+        left = {it.name.split(".ic")[1] for it in (self.room / "texts").iterdir()}
+        self.equals("texts", "files that are left", {"", ".answer", ".figures", ".lock"}, left)
+
+    def has(self, *ends, of="texts"):
+        """Fails unless the folder has just these files, by the ends of their names."""
+        self.equals(of, "the files", sorted(ends), sorted(it.name for it in (self.room / of).iterdir()))
+
+    def test_a_script_that_is_killed_before_or_after_each_program_that_it_calls_goes_on(self):
+        """It calls flock, then rm twice, icserve and grep, sync, mv and sync twice, icserve, grep twice, sync, mv and sync twice,
+        and rm twice."""
+        self.counts_calls("flock", "grep", "mv", "rm", "sync")
+        for moment in ("BEFORE", "AFTER"):
+            for call in range(1, 24):
+                folder = f"texts-{moment}-{call}"
+                self.write({"one": f"{FIBONACCI} <r|F(r)={numeral(5)}>"}, folder)
+                with self.killed_at(moment, call, SCRIPTS / "large", f"{folder}/one.ic") as large:
+                    status, said = large.end()
+                    self.equals(large.command, f"{moment} {call}: status; it said {said}", -signal.SIGKILL if call < 23 else 0, status)
+                    self.waits_for(lambda: not large.left(), told=large.left)
+                ran = self.script("table", folder)
+                self.equals(ran.command, f"status; it said {ran.err}", 0, ran.status)
+                self.ended(self.script("large", f"{folder}/one.ic"))
+                self.has("one.ic", "one.ic.answer", "one.ic.figures", "one.ic.lock", of=folder)
+                self.ended(self.script("gather", folder), out=[f"one done 51 <{numeral(5)}|>"])
+
+    def test_a_script_that_is_told_to_end_ends_its_program_and_goes_on(self):
+        self.write({"one": LOOP})
+        for sign in (signal.SIGTERM, signal.SIGHUP):
+            for text in ("texts/one.ic", "texts"):
+                with self.engine(SCRIPTS / "large", text) as large:
+                    self.waits_for(lambda: (self.room / "texts/one.ic.out").exists())
+                    os.kill(large.process.pid, sign)
+                    status, said = large.end()
+                    self.equals(large.command, f"status; it said {said}", 143, status)
+                    self.equals(large.command, "what it has left running", [], large.left())
+                self.has("one.ic", "one.ic.keep", "one.ic.keep.2", "one.ic.lock")
+
+    def test_a_time_that_is_too_short_for_a_beginning_leaves_nothing(self):
+        self.write({"one": f"{FIBONACCI} <r|F(r)={numeral(5)}>"})
+        self.stands_for("icserve", SLOW.format(program=PROGRAM))
+        ran = self.script("large", "--time", "1", "texts/one.ic", program_of_scripts=self.room / "icserve")
+        self.equals(ran.command, f"status; it said {ran.err}", 5, ran.status)
+        self.has("one.ic", "one.ic.lock")
+        self.ended(self.script("large", "--time", "60", "texts/one.ic"))
+
+    def test_a_text_that_ends_while_it_is_looked_at_is_told_as_done(self):
+        self.write({"one": f"{FIBONACCI} <r|F(r)={numeral(5)}>"})
+        ran = self.script("large", "texts/one.ic", "--steps", "1")
+        self.equals(ran.command, f"status; it said {ran.err}", 5, ran.status)
+        self.stands_for("icserve", ENDS.format(program=PROGRAM, large=SCRIPTS / "large"))
+        ran = self.script("table", "texts", program_of_scripts=self.room / "icserve")
+        self.equals(ran.command, f"status; it said {ran.err}", 0, ran.status)
+        self.equals(ran.command, "its row", [b"one", b"done", b"51"], ran.out.splitlines()[1].split(b"\t")[:3])
+
+    def test_a_task_of_slurm_whose_time_is_nearly_over_stops_and_is_put_into_the_queue(self):
+        """A program that writes down how it is called stands for scontrol."""
+        self.stands_for("scontrol", '#!/bin/sh\necho "$@" >>asked\n')
+        self.write({"one": f"{FIBONACCI} <r|F(r)={numeral(5)}>", "two": LOOP})
+        folder = self.cut([f"submit loop {LOOP}", "submit none {} <|>"], jobs=1)
+        tasks = {"texts": (2, "texts/two.ic.out", ["--seconds", "1"]), "jobs": (1, "jobs/00001/answers.part", ["--every", "1"])}
+        for of, (number, begun, words) in tasks.items():
+            slurm = {"SLURM_ARRAY_TASK_ID": str(number), "SLURM_ARRAY_JOB_ID": "7"}
+            with self.with_stand_ins("sh", SCRIPTS / "array.sbatch", SCRIPTS, of, *words, env=slurm) as task:
+                self.waits_for((self.room / begun).exists, told=task.left)
+                time.sleep(0.1)
+                os.kill(task.process.pid, signal.SIGUSR1)
+                status, said = task.end()
+                self.equals(task.command, f"status; it said {said}", 0, status)
+                self.equals(task.command, "what it has left running", [], task.left())
+        self.holds(self.room / "asked", "requeue 7_2\nrequeue 7_1\n")
+        self.has("one.ic", "two.ic", "two.ic.keep", "two.ic.keep.2", "two.ic.lock")
+        # Others end as their scripts do.
+        for of, number, wanted in (("texts", 1, "texts/one.ic.answer"), ("jobs", 2, "jobs/00002/answers"), ("texts", 3, None)):
+            slurm = {"SLURM_ARRAY_TASK_ID": str(number), "SLURM_ARRAY_JOB_ID": "9"}
+            with self.with_stand_ins("sh", SCRIPTS / "array.sbatch", SCRIPTS, of, env=slurm) as task:
+                status, said = task.end()
+                self.equals(task.command, f"status; it said {said}", 0 if wanted else 2, status)
+            if wanted:
+                self.equals(wanted, "whether it is there", True, (self.room / wanted).exists())
+
+    def test_what_is_refused_cut_or_begun_is_told(self):
+        add = "{Add(x,x)><Z;Add(S(x),y)><S(Add(x,y))}"
+        self.write({"bad": "{A><B", "done": f"{add} <r|Add(r,Z)=Z>", "loop": LOOP, "stuck": "{A><B} <|A=A,A=B>", "wide": f"{add} <r|Add(r,Z)={numeral(9)}>"})
+        self.ended(self.script("table", "texts"), out=["name\tstate\tinteractions\tseconds\tnodes\ttold", *(f"{it}\twaiting\t-\t-\t-\t-" for it in ("bad", "done", "loop", "stuck", "wide"))])
+        for words, status in ((["texts/bad.ic"], 1), (["texts/done.ic"], 0), (["texts/loop.ic", "--steps", "7"], 5), (["texts/stuck.ic"], 0)):
+            ran = self.script("large", *words)
+            self.equals(ran.command, f"status; it said {ran.err}", status, ran.status)
+        rows = [it.split("\t") for it in self.script("table", "texts").out.decode().splitlines()[1:]]
+        told = [["bad", "refused", "-", "bad syntax"], ["done", "done", "1", "-"], ["loop", "begun", "7", "-"], ["stuck", "stuck", "1", "A><A"], ["wide", "waiting", "-", "-"]]
+        self.equals("table texts", "its rows, without seconds and nodes", told, [[*it[:3], it[5]] for it in rows])
+        progress = self.script("progress", "texts").out.decode().splitlines()
+        self.equals("progress texts", "the last line", "5 texts: done 1, stuck 1, refused 1, begun 1, waiting 1, interactions 9", progress[-1])
+        ran = self.script("gather", "texts")
+        self.equals(ran.command, "how it ends", (1, b""), (ran.status, ran.out))
+        # With more steps it goes on, and a folder is taken as a whole.
+        ran = self.script("large", "texts", "--steps", "100")
+        self.equals(ran.command, f"status; it said {ran.err}", 5, ran.status)
+        rows = [it.split("\t")[:3] for it in self.script("table", "texts").out.decode().splitlines()[1:]]
+        self.equals("table texts", "its rows", [["bad", "refused", "-"], ["done", "done", "1"], ["loop", "begun", "100"], ["stuck", "stuck", "1"], ["wide", "done", "10"]], rows)
+
+    def test_two_at_one_text_and_misuse_are_told(self):
+        self.write({"one": LOOP})
+        with self.engine(SCRIPTS / "large", "texts/one.ic") as engine:
+            self.waits_for(lambda: (self.room / "texts/one.ic.keep").exists() or engine.ended() is not None)
+            ran = self.script("large", "texts/one.ic")
+            self.equals(ran.command, "status", 6, ran.status)
+            # A time limit ends it, and what is kept stays.
+        ran = self.script("large", "--time", "1", "texts/one.ic")
+        self.equals(ran.command, f"status; it said {ran.err}", 5, ran.status)
+        for words in ([], ["none.ic"], ["--time", "x", "texts/one.ic"], ["--time", "0", "texts/one.ic"], ["texts/one.ic", "--stats"]):
+            ran = self.script("large", *words)
+            self.equals(ran.command, "status and standard output", (2, b""), (ran.status, ran.out))
+        for script in ("large", "table"):
+            ran = self.script(script, "--help")
+            self.equals(ran.command, "whether it tells the statuses", True, ran.status == 0 and b"\nStatus 0: " in ran.out)
