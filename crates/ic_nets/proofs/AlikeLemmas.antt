@@ -4,11 +4,8 @@ use Rattle.std.proofs.lemmas.List.{map-id}
 use Rattle.std.proofs.lemmas.Simd.{map-map}
 use Rattle.ic_term.specs.Configuration.{Configuration}
 use Rattle.ic_rules.specs.Rule.{Rule}
-use Rattle.ic_nets.specs.Likeness.{AreAlike, EitherWay, InSomeOrder, chained, IsVertex, Vertex, carried, carried_ends, edges, points, vertices}
-use Rattle.ic_nets.specs.Links.{agents_of, links_of}
-use Rattle.ic_nets.specs.Nets.{IsNet}
-use Rattle.ic_nets.specs.Ports.{is_bound}
-use Rattle.ic_nets.specs.Wiring.{name_wires, plain_wires, standings}
+use Rattle.ic_nets.specs.Likeness.{AreAlike, EitherWay, InSomeOrder, chained, IsVertex, Vertex, carried, carried_ends, edges, points, vertices, is_bound}
+use Rattle.ic_nets.specs.Nets.{agents_of, links_of, IsNet, name_wires, plain_wires, standings}
 use Rattle.ic_nets.specs.declared.net.Agent.{Agent}
 use Rattle.ic_nets.specs.declared.net.Net.{Net}
 use Rattle.ic_nets.specs.declared.net.Wire.{Wire}

@@ -8,8 +8,8 @@ use Rattle.ic_settle.specs.Settling.{occurs, subst, subst_all}
 use Rattle.ic_settle.specs.lemmas.PutEach.{names_of-trees_of}
 use Rattle.ic_rules.specs.Rule.{Rule}
 use Rattle.ic_confluence.specs.Sameness.{Rearranged, kept, itself, one_by_one}
-use Rattle.ic_nets.specs.Links.{agents_among, agents_in, agents_of, end_of, equation_link, hanging, hung, inside, joined, links_of, pair_agents, pair_links, pairs_agents}
-use Rattle.ic_nets.specs.ReadBack.{agent_equation, agent_equations, equated, names_at}
+use Rattle.ic_nets.specs.Nets.{agents_among, agents_in, agents_of, end_of, equation_link, hanging, hung, inside, joined, links_of, pair_agents, pair_links, pairs_agents}
+use Rattle.ic_nets.specs.inner.ReadBack.{agent_equation, agent_equations, equated, names_at}
 use Rattle.ic_nets.specs.declared.net.Agent.{Agent}
 use Rattle.ic_nets.specs.declared.links.End.{End}
 use Rattle.ic_nets.specs.declared.links.End.TheVariants.{At, Named}

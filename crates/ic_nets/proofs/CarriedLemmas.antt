@@ -2,9 +2,8 @@
 use Rattle.std.proofs.Common.{◌≡◌, ℕ, zero, suc, ◌+◌, ◌≤◌, ◌==◌, List, [], ◌∷◌, ◌++◌, Bool, true, false, cond, length, map, refl, sym, ap, ◌∙◌, arith}
 use Rattle.std.proofs.lemmas.List.{length-append, map-append}
 use Rattle.ic_term.specs.Tree.{list_of}
-use Rattle.ic_nets.specs.Links.{agents_among, agents_in, end_of, pair_agents}
-use Rattle.ic_nets.specs.Ports.{is_bound}
-use Rattle.ic_nets.specs.Wiring.{are_names}
+use Rattle.ic_nets.specs.Nets.{agents_among, agents_in, end_of, pair_agents, are_names}
+use Rattle.ic_nets.specs.Likeness.{is_bound}
 use Rattle.ic_nets.specs.declared.port.Port.{Port}
 use Rattle.ic_nets.specs.declared.port.Port.TheVariants.{Interface, Principal, Auxiliary, Left, Right, Free}
 use Rattle.ic_nets.proofs.SumLemmas.{counted, sum, sum-append, sum-map, sum-same, total-same}

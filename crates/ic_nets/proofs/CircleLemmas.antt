@@ -2,9 +2,8 @@
 use Rattle.std.proofs.Common.{◌≡◌, ℕ, zero, suc, inr, List, [], ◌∷◌, true, refl, sym, ap, ◌∙◌}
 use Rattle.ic_rules.specs.Rule.{Rule}
 use Rattle.ic_confluence.specs.Circle.{cut_at_x, cut_at_y, of_equations, uncut}
-use Rattle.ic_nets.specs.Likeness.{AreAlike, empty, matched, crossed, chained}
+use Rattle.ic_nets.specs.Likeness.{AreAlike, empty, matched, crossed, chained, is_bound}
 use Rattle.ic_nets.specs.Nets.{IsNet}
-use Rattle.ic_nets.specs.Ports.{is_bound}
 use Rattle.ic_nets.specs.declared.net.Net.{Net}
 use Rattle.ic_nets.specs.declared.port.Port.{Port}
 use Rattle.ic_nets.specs.declared.port.Port.TheVariants.{Principal, Auxiliary, Free}

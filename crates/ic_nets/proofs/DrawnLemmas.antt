@@ -3,9 +3,8 @@ use Rattle.std.proofs.Common.{◌≡◌, ℕ, zero, suc, ◌+◌, ◌≤◌, ◌
 use Rattle.ic_term.specs.Tree.{Tree, name, agent, Trees, no_trees, more_trees, list_of, trees_of, Pair}
 use Rattle.ic_term.specs.Configuration.{Configuration, configuration_names, occurrences}
 use Rattle.ic_rules.specs.Rule.{Rule}
-use Rattle.ic_nets.specs.Links.{agents_among, agents_in, agents_of, end_of, equation_link, hanging, inside, joined, links_of, pair_agents, pairs_agents}
-use Rattle.ic_nets.specs.Ports.{is_bound, ports_at, wire_named}
-use Rattle.ic_nets.specs.Wiring.{are_names, joins_names, name_wires, named_wires, plain_wires, standings, standings_between, wire_between}
+use Rattle.ic_nets.specs.Nets.{agents_among, agents_in, agents_of, end_of, equation_link, hanging, inside, joined, links_of, pair_agents, pairs_agents, are_names, joins_names, name_wires, named_wires, plain_wires, standings, standings_between, wire_between}
+use Rattle.ic_nets.specs.Likeness.{is_bound, ports_at, wire_named}
 use Rattle.ic_nets.specs.declared.net.Agent.{Agent}
 use Rattle.ic_nets.specs.declared.net.Wire.{Wire}
 use Rattle.ic_nets.specs.declared.links.End.{End}

@@ -3,10 +3,8 @@ use Rattle.std.proofs.Common.{◌≡◌, ℕ, ◌+◌, ◌≤◌, ◌==◌, List
 use Rattle.std.proofs.lemmas.List.Concat.{flat_map-append}
 use Rattle.ic_term.specs.Configuration.{Configuration, configuration_names, occurrences}
 use Rattle.ic_rules.specs.Rule.{Rule}
-use Rattle.ic_nets.specs.Links.{agents_of, links_of}
-use Rattle.ic_nets.specs.Wiring.{name_wires, named_wires, plain_wires, standings}
-use Rattle.ic_nets.specs.Nets.{IsNet}
-use Rattle.ic_nets.specs.Ports.{agent_ports, counted_ports, ends, is_bound, joint_ports, ports_of, times}
+use Rattle.ic_nets.specs.Nets.{agents_of, links_of, name_wires, named_wires, plain_wires, standings, IsNet}
+use Rattle.ic_nets.specs.Likeness.{agent_ports, counted_ports, ends, is_bound, joint_ports, ports_of, times}
 use Rattle.ic_nets.specs.declared.net.Net.{Net}
 use Rattle.ic_nets.specs.declared.net.Wire.{Wire}
 use Rattle.ic_nets.specs.declared.links.Link.{Link}

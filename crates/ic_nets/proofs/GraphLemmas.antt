@@ -6,10 +6,8 @@ use Rattle.ic_term.specs.Tree.{trees_of}
 use Rattle.ic_term.specs.Configuration.{Configuration, configuration_names}
 use Rattle.ic_rules.specs.Rule.{Rule}
 use Rattle.ic_confluence.specs.Sameness.{Rearranges, Renames}
-use Rattle.ic_nets.specs.Likeness.{AreAlike, EitherWay, InSomeOrder, IsVertex, Vertex, carried, carried_ends, edges, points, vertex, vertices}
-use Rattle.ic_nets.specs.Links.{agents_among, agents_of, links_of}
-use Rattle.ic_nets.specs.Nets.{IsNet}
-use Rattle.ic_nets.specs.Ports.{counted_ports}
+use Rattle.ic_nets.specs.Likeness.{AreAlike, EitherWay, InSomeOrder, IsVertex, Vertex, carried, carried_ends, edges, points, vertex, vertices, counted_ports}
+use Rattle.ic_nets.specs.Nets.{agents_among, agents_of, links_of, IsNet}
 use Rattle.ic_nets.specs.declared.net.Agent.{Agent}
 use Rattle.ic_nets.specs.declared.net.Net.{Net}
 use Rattle.ic_nets.specs.declared.net.Wire.{Wire}

@@ -7,7 +7,7 @@ use Rattle.ic_term.specs.declared.term.Term.{Term}
 use Rattle.ic_term.specs.Tree.{Tree, agent, trees_of, nodes, nodes_of}
 use Rattle.ic_term.specs.Term.{tree}
 use Rattle.ic_term.specs.lemmas.TreeLaws.{list_of-trees_of}
-use Rattle.ic_nets.specs.Links.{agents_among, agents_in, hanging, inside, hung}
+use Rattle.ic_nets.specs.Nets.{agents_among, agents_in, hanging, inside, hung}
 use Rattle.ic_nets.specs.inner.Hanging.{agents_hung, coming, hung_at, links_hung}
 use Rattle.ic_nets.specs.declared.net.Agent.{Agent}
 use Rattle.ic_nets.specs.declared.port.Port.{Port}

@@ -13,7 +13,7 @@ use Rattle.ic_round.specs.lemmas.NameStepLemmas.{in_either, in_first}
 use Rattle.ic_confluence.specs.Sameness.{itself, exchanged, Rearranged, nothing, kept, swapped, one_by_one, Same, rearranging, through}
 use Rattle.ic_settle.specs.lemmas.Reached.{settled_ends}
 use Rattle.ic_confluence.specs.lemmas.Puts.{terms_absent as terms-absent, pairs_absent as pairs-absent}
-use Rattle.ic_nets.specs.ReadBack.{equated}
+use Rattle.ic_nets.specs.inner.ReadBack.{equated}
 use Rattle.ic_nets.proofs.SettledLemmas.{settles_on}
 
 -- what is proved of configurations of one net

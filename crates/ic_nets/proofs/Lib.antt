@@ -7,8 +7,6 @@ pub mod NameLemmas
 pub mod EndLemmas
 pub mod OnceLemmas
 pub mod NamedLemmas
-pub mod FoundLemmas
-pub mod ActiveLemmas
 pub mod RenamingLemmas
 pub mod SettledLemmas
 pub mod LeadLemmas

@@ -6,10 +6,9 @@ use Rattle.ic_term.specs.Configuration.{Configuration, IsConfiguration}
 use Rattle.ic_settle.specs.Settling.{settled}
 use Rattle.ic_rules.specs.Rule.{Rule}
 use Rattle.ic_confluence.specs.Sameness.{Alike, itself, exchanged, Rearranged, nothing, kept, swapped, one_by_one, Same, rearranging, through}
-use Rattle.ic_nets.specs.Likeness.{AreAlike, EitherWay, InSomeOrder, empty, matched, crossed, chained, IsVertex, Vertex, carried, carried_ends, edges, points, vertices}
+use Rattle.ic_nets.specs.Likeness.{AreAlike, EitherWay, InSomeOrder, empty, matched, crossed, chained, IsVertex, Vertex, carried, carried_ends, edges, points, vertices, counted_ports, ports_of}
 use Rattle.ic_nets.specs.Nets.{IsNet}
-use Rattle.ic_nets.specs.Ports.{counted_ports, ports_of}
-use Rattle.ic_nets.specs.ReadBack.{IsNaming, agent_equation, agent_equations, equated, joint_equations, names_at, read_back, wire_equations}
+use Rattle.ic_nets.specs.inner.ReadBack.{IsNaming, agent_equation, agent_equations, equated, joint_equations, names_at, read_back, wire_equations}
 use Rattle.ic_nets.specs.declared.net.Agent.{Agent}
 use Rattle.ic_nets.specs.declared.net.Net.{Net}
 use Rattle.ic_nets.specs.declared.net.Wire.{Wire}

@@ -6,9 +6,8 @@ use Rattle.std.proofs.lemmas.List.Concat.{flat_map-append}
 use Rattle.ic_term.specs.Tree.{Tree, name, agent, Trees, no_trees, more_trees, trees_of, names, names_of, Pair, pair_names}
 use Rattle.ic_term.specs.Configuration.{Configuration, configuration_names, occurrences}
 use Rattle.ic_rules.specs.Rule.{Rule}
-use Rattle.ic_nets.specs.Links.{agents_among, agents_in, end_of, equation_link, hanging, inside, joined, links_of, pair_agents, pair_links}
-use Rattle.ic_nets.specs.Wiring.{are_names, standings, standings_between, wire_of, with_standing}
-use Rattle.ic_nets.specs.Ports.{ends, is_bound, port_eq, times}
+use Rattle.ic_nets.specs.Nets.{agents_among, agents_in, end_of, equation_link, hanging, inside, joined, links_of, pair_agents, pair_links, are_names, standings, standings_between, wire_of, with_standing}
+use Rattle.ic_nets.specs.Likeness.{ends, is_bound, port_eq, times}
 use Rattle.ic_nets.specs.declared.net.Wire.{Wire}
 use Rattle.ic_nets.specs.declared.links.End.{End}
 use Rattle.ic_nets.specs.declared.links.End.TheVariants.{At, Named}

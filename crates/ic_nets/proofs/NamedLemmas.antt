@@ -2,8 +2,8 @@
 use Rattle.std.proofs.Common.{◌≡◌, ℕ, ◌==◌, List, [], ◌∷◌, Bool, true, false, cond, Option, None, Some, fold, filter, map, refl, sym, ap, ◌∙◌}
 use Rattle.std.specs.Cmp.{unsigned_Decides}
 use Rattle.std.proofs.lemmas.Bool.{true≢false}
-use Rattle.ic_nets.specs.Wiring.{named_wires, wire_of, with_standing}
-use Rattle.ic_nets.specs.Ports.{ports_at, wire_named}
+use Rattle.ic_nets.specs.Nets.{named_wires, wire_of, with_standing}
+use Rattle.ic_nets.specs.Likeness.{ports_at, wire_named}
 use Rattle.ic_nets.specs.declared.net.Wire.{Wire}
 use Rattle.ic_nets.specs.declared.links.Standing.{Standing}
 use Rattle.ic_nets.specs.declared.port.Port.{Port}

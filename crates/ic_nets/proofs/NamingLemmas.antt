@@ -14,11 +14,9 @@ use Rattle.ic_round.specs.Naming.{HasNames}
 use Rattle.ic_round.specs.lemmas.FreshNames.{absent_above}
 use Rattle.ic_confluence.specs.Sameness.{Rearranged, one_by_one, Same, through}
 use Rattle.ic_confluence.specs.lemmas.Counts.{All_from as all_from}
-use Rattle.ic_nets.specs.Links.{agents_of, links_of}
-use Rattle.ic_nets.specs.Nets.{IsNet}
-use Rattle.ic_nets.specs.Ports.{agent_ports, counted_ports, ends, is_bound, joint_ports, port_eq, ports_of, times}
-use Rattle.ic_nets.specs.ReadBack.{IsNaming, agent_equations, joint_equations, names_at, read_back, wire_equation, wire_equations}
-use Rattle.ic_nets.specs.Wiring.{name_wires, plain_wires, standings}
+use Rattle.ic_nets.specs.Nets.{agents_of, links_of, IsNet, name_wires, plain_wires, standings}
+use Rattle.ic_nets.specs.Likeness.{agent_ports, counted_ports, ends, is_bound, joint_ports, port_eq, ports_of, times}
+use Rattle.ic_nets.specs.inner.ReadBack.{IsNaming, agent_equations, joint_equations, names_at, read_back, wire_equation, wire_equations}
 use Rattle.ic_nets.specs.declared.net.Agent.{Agent}
 use Rattle.ic_nets.specs.declared.net.Net.{Net}
 use Rattle.ic_nets.specs.declared.net.Wire.{Wire}

@@ -1,7 +1,7 @@
 -- Each port of a net is listed once.
 use Rattle.std.proofs.Common.{◌≡◌, ℕ, zero, suc, ◌+◌, ◌<◌, ◌≤◌, ◌==◌, inl, inr, List, [], ◌∷◌, ◌++◌, Bool, true, false, refl, ap, ◌∙◌, arith}
 use Rattle.std.proofs.lemmas.Bool.{and_left, and_right, cases_eq, ne_eqb}
-use Rattle.ic_nets.specs.Ports.{agent_ports, counted_ports, joint_ports, port_eq, ports_of, times}
+use Rattle.ic_nets.specs.Likeness.{agent_ports, counted_ports, joint_ports, port_eq, ports_of, times}
 use Rattle.ic_nets.specs.declared.net.Agent.{Agent}
 use Rattle.ic_nets.specs.declared.net.Net.{Net}
 use Rattle.ic_nets.specs.declared.port.Port.{Port}

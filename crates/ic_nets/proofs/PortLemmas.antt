@@ -8,9 +8,8 @@ use Rattle.ic_term.specs.Tree.{Tree, name, agent, Trees, no_trees, more_trees, l
 use Rattle.ic_term.specs.Configuration.{Configuration}
 use Rattle.ic_term.specs.lemmas.TreeLaws.{list_of-trees_of}
 use Rattle.ic_rules.specs.Rule.{Rule}
-use Rattle.ic_nets.specs.Links.{agents_among, agents_in, agents_of, end_of, equation_link, hanging, inside, joined, links_of, pair_agents, pair_links, pairs_agents}
-use Rattle.ic_nets.specs.Wiring.{are_names, joins_names, joints_in, plain_wires, standings, standings_between, wire_between}
-use Rattle.ic_nets.specs.Ports.{agent_ports, counted_ports, ends, is_bound, joint_ports, port_eq, times}
+use Rattle.ic_nets.specs.Nets.{agents_among, agents_in, agents_of, end_of, equation_link, hanging, inside, joined, links_of, pair_agents, pair_links, pairs_agents, are_names, joins_names, joints_in, plain_wires, standings, standings_between, wire_between}
+use Rattle.ic_nets.specs.Likeness.{agent_ports, counted_ports, ends, is_bound, joint_ports, port_eq, times}
 use Rattle.ic_nets.specs.declared.net.Agent.{Agent}
 use Rattle.ic_nets.specs.declared.links.End.{End}
 use Rattle.ic_nets.specs.declared.links.End.TheVariants.{At, Named}

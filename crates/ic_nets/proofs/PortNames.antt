@@ -6,8 +6,8 @@ use Rattle.ic_settle.specs.Settling.{settled}
 use Rattle.ic_rules.specs.Rule.{Rule}
 use Rattle.ic_confluence.specs.Sameness.{Same, through}
 use Rattle.ic_nets.specs.Nets.{IsNet}
-use Rattle.ic_nets.specs.Ports.{is_bound, port_eq, ports_of, times}
-use Rattle.ic_nets.specs.ReadBack.{IsNaming}
+use Rattle.ic_nets.specs.Likeness.{is_bound, port_eq, ports_of, times}
+use Rattle.ic_nets.specs.inner.ReadBack.{IsNaming}
 use Rattle.ic_nets.specs.declared.net.Net.{Net}
 use Rattle.ic_nets.specs.declared.port.Port.{Port}
 use Rattle.ic_nets.specs.declared.port.Port.TheVariants.{Interface, Principal, Auxiliary, Left, Right, Free}

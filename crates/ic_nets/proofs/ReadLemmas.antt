@@ -3,9 +3,9 @@ use Rattle.std.proofs.Common.{◌≡◌, ℕ, suc, ◌+◌, ◌≤◌, ◌==◌,
 use Rattle.std.proofs.lemmas.Bool.{eqb-true, true≢false}
 use Rattle.ic_term.specs.Tree.{Tree, name, Pair}
 use Rattle.ic_confluence.specs.Sameness.{Rearranged, kept, itself, swapped, one_by_one}
-use Rattle.ic_nets.specs.Wiring.{are_names, plain_wires, standings, standings_between, wire_between, wire_of, with_standing}
-use Rattle.ic_nets.specs.Ports.{is_bound}
-use Rattle.ic_nets.specs.ReadBack.{equated, joint_equations, wire_equation, wire_equations}
+use Rattle.ic_nets.specs.Nets.{are_names, plain_wires, standings, standings_between, wire_between, wire_of, with_standing}
+use Rattle.ic_nets.specs.Likeness.{is_bound}
+use Rattle.ic_nets.specs.inner.ReadBack.{equated, joint_equations, wire_equation, wire_equations}
 use Rattle.ic_nets.specs.declared.net.Wire.{Wire}
 use Rattle.ic_nets.specs.declared.links.End.{End}
 use Rattle.ic_nets.specs.declared.links.End.TheVariants.{At, Named}

@@ -14,10 +14,8 @@ use Rattle.ic_rules.specs.Renaming.{renamed, renamed_trees}
 use Rattle.ic_rules.specs.lemmas.RenamingLaws.{renamed_trees-trees_of}
 use Rattle.ic_round.specs.Firing.{rule_of_sides}
 use Rattle.ic_confluence.specs.Sameness.{Renames, renamed_in, renamed_pair}
-use Rattle.ic_nets.specs.Links.{agents_among, agents_in, agents_of, end_of, equation_link, hanging, inside, joined, links_of, pair_agents, pair_links, pairs_agents}
-use Rattle.ic_nets.specs.Wiring.{are_names, joins_names, name_wires, named_wires, plain_wires, standings, standings_at, standings_between, wire_between, wire_of, wires_at, with_standing}
-use Rattle.ic_nets.specs.Nets.{IsNet}
-use Rattle.ic_nets.specs.Ports.{ends, is_bound, port_eq, times}
+use Rattle.ic_nets.specs.Nets.{agents_among, agents_in, agents_of, end_of, equation_link, hanging, inside, joined, links_of, pair_agents, pair_links, pairs_agents, are_names, joins_names, name_wires, named_wires, plain_wires, standings, standings_at, standings_between, wire_between, wire_of, wires_at, with_standing, IsNet}
+use Rattle.ic_nets.specs.Likeness.{ends, is_bound, port_eq, times}
 use Rattle.ic_nets.specs.declared.net.Net.{Net}
 use Rattle.ic_nets.specs.declared.net.Wire.{Wire}
 use Rattle.ic_nets.specs.declared.links.End.{End}

@@ -9,7 +9,7 @@ use Rattle.ic_rules.specs.Renaming.{renamed}
 use Rattle.ic_rules.specs.lemmas.NumberingLaws.{Fixes, terms-fixed}
 use Rattle.ic_rules.specs.lemmas.RenamingLaws.{Through, terms-through}
 use Rattle.ic_confluence.specs.Sameness.{Rearranged, nothing, one_by_one, renamed_in, renamed_pair, Renames, Same, renaming, rearranging, through}
-use Rattle.ic_nets.specs.Church.{alone, church_false, church_true}
+use Rattle.ic_nets.specs.Likeness.{alone, church_false, church_true}
 
 -- ---- renaming by nothing, and twice
 

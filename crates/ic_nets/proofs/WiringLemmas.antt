@@ -3,7 +3,7 @@ use Rattle.std.proofs.Common.{◌≡◌, ℕ, List, [], ◌∷◌, Bool, true, f
 use Rattle.std.specs.Prelude.{nat_eq}
 use Rattle.std.specs.Map.{lookup}
 use Rattle.indexmap.specs.IndexMap.{insert_entry}
-use Rattle.ic_nets.specs.Wiring.{wire_of, with_standing}
+use Rattle.ic_nets.specs.Nets.{wire_of, with_standing}
 use Rattle.ic_nets.specs.declared.net.Wire.{Wire}
 use Rattle.ic_nets.specs.declared.links.Standing.{Standing}
 

@@ -1,9 +1,4 @@
-pub mod Links
-pub mod Wiring
 pub mod Nets
-pub mod Ports
 pub mod Draws
-pub mod ReadBack
 pub mod Likeness
-pub mod Church
 pub mod inner

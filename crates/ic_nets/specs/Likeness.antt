@@ -1,12 +1,74 @@
--- When two nets are one graph: which number an agent has, the order of agents and wires, and which
+-- The ports of a net, and when two nets are one graph: which number an agent has, the order of agents and wires, and which
 -- end is named first only say how the graph is written down.
-use Rattle.std.specs.Prelude.{◌≡◌, ℕ, zero, suc, ◌+◌, ◌⊎◌, List, [], ◌∷◌, true, map}
-use Rattle.ic_nets.specs.Ports.{counted_ports, is_bound}
+use Rattle.std.specs.Prelude.{ℕ, zero, suc, ◌+◌, ◌==◌, List, [], ◌∷◌, ◌++◌, Bool, true, false, ◌&&◌, Option, None, Some, filter, if◌then◌else◌, map, ◌≡◌, ◌⊎◌}
+use Rattle.std.specs.List.{flat_map}
 use Rattle.ic_nets.specs.declared.net.Agent.{Agent}
-use Rattle.ic_nets.specs.declared.net.Net.{Net}
 use Rattle.ic_nets.specs.declared.net.Wire.{Wire}
+use Rattle.ic_nets.specs.declared.net.Net.{Net}
+use Rattle.ic_nets.specs.declared.links.Standing.{Standing}
 use Rattle.ic_nets.specs.declared.port.Port.{Port}
 use Rattle.ic_nets.specs.declared.port.Port.TheVariants.{Interface, Principal, Auxiliary, Left, Right, Free}
+use Rattle.ic_term.specs.Tree.{Tree, name, agent, no_trees, more_trees}
+use Rattle.ic_term.specs.Configuration.{Configuration}
+
+-- whether two ports are the same
+abbrev pub port_eq : Port → Port → Bool
+port_eq (Interface i) (Interface j) = i == j
+port_eq (Principal i) (Principal j) = i == j
+port_eq (Auxiliary a i) (Auxiliary b j) = a == b && i == j
+port_eq (Left i) (Left j) = i == j
+port_eq (Right i) (Right j) = i == j
+port_eq (Free m) (Free n) = m == n
+port_eq _ _ = false
+
+-- not the free end of a name
+abbrev pub is_bound : Port → Bool
+is_bound (Interface i) = true
+is_bound (Principal k) = true
+is_bound (Auxiliary k i) = true
+is_bound (Left j) = true
+is_bound (Right j) = true
+is_bound (Free n) = false
+
+-- how many of these are this port
+abbrev pub times : Port → List Port → ℕ
+times p [] = 0
+times p (q ∷ qs) = (if port_eq p q then 1 else 0) + times p qs
+
+-- both ends of each wire
+abbrev pub ends : List Wire → List Port
+ends ws = flat_map (λ w. w.from ∷ w.to ∷ []) ws
+
+-- so many ports, counted on from a place
+abbrev pub counted_ports : (ℕ → Port) → (place count : ℕ) → List Port
+counted_ports port i zero = []
+counted_ports port i (suc n) = port i ∷ counted_ports port (i + 1) n
+
+-- the principal port and the auxiliary ports of each agent, of which the first has this number
+abbrev pub agent_ports : ℕ → List Agent → List Port
+agent_ports k [] = []
+agent_ports k (a ∷ rest) = Principal k
+    ∷ (counted_ports (Auxiliary k) 1 a.arity ++ agent_ports (k + 1) rest)
+
+-- the two sides of so many equations of two names, of which the first has this number
+abbrev pub joint_ports : (first count : ℕ) → List Port
+joint_ports j zero = []
+joint_ports j (suc n) = Left j ∷ Right j ∷ joint_ports (j + 1) n
+
+-- the bound ports of a net: the places of its interface, the ports of its agents, and the sides of its
+-- equations of two names
+abbrev pub ports_of : Net → List Port
+ports_of net = counted_ports Interface 1 net.interface
+    ++ (agent_ports 0 net.agents.items ++ joint_ports 0 net.joints)
+
+-- the ports at which a name stands, in the order of the text
+abbrev pub ports_at : ℕ → List Standing → List Port
+ports_at n ss = map (λ s. s.port) (filter (λ s. s.name == n) ss)
+
+-- the wire of a name
+abbrev pub wire_named : ℕ → List (ℕ × Wire) → Option Wire
+wire_named n [] = None
+wire_named n (w ∷ ws) = if w.0 == n then Some w.1 else wire_named n ws
 
 -- an agent as a vertex: its symbol, and its ports in order
 pub record Vertex : Type 0 where
@@ -74,3 +136,20 @@ pub record AreAlike (m n : Net) : Type 0 where
       (points 0 n.joints)
   pub wires : InSomeOrder EitherWay (map (carried_ends to) (edges m.wires.items))
       (edges n.wires.items)
+
+-- Church's true and false as nets, for a law: functions of two arguments, of which one returns the first and the other one
+-- the second. What isn't used is erased. Here the agent of a function, with its argument and its result.
+abbrev pub function_of : ℕ → (argument answer : Tree) → Tree
+function_of l x t = agent l (more_trees x (more_trees t no_trees))
+
+-- `L(x,L(E,x))`, where x has the number 0
+abbrev pub church_true : (l e : ℕ) → Tree
+church_true l e = function_of l (name 0) (function_of l (agent e no_trees) (name 0))
+
+-- `L(E,L(x,x))`
+abbrev pub church_false : (l e : ℕ) → Tree
+church_false l e = function_of l (agent e no_trees) (function_of l (name 0) (name 0))
+
+-- a configuration of one term whose only name is 0, and no equations
+abbrev pub alone : Tree → Configuration
+alone t = record { interface = t ∷ []; equations = []; next = 1 }

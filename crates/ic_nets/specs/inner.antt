@@ -1,2 +1,3 @@
--- What only contracts of private functions cite.
+-- What only contracts of private functions and proofs cite.
 pub mod Hanging
+pub mod ReadBack

@@ -1,23 +1,17 @@
 //! Laws of the definitions that the contracts of this crate cite.
 
-ghost use Rattle.std.specs.Prelude.{◌≡◌, ◌↔◌, ◌≤◌, ◌==◌, ◌++◌, ℕ, List, [], ◌∷◌, true, false, Some, if◌then◌else◌, length, count_by, is_some};
+ghost use Rattle.std.specs.Prelude.{◌≡◌, ◌↔◌, ◌≤◌, ◌==◌, ◌++◌, ℕ, List, [], ◌∷◌, true, false, Some, if◌then◌else◌};
 ghost use Rattle.std.specs.List.{list_all};
 ghost use Rattle.ic_term.specs.Configuration.{Configuration, IsConfiguration, configuration_names, occurrences};
 ghost use Rattle.ic_term.specs.Tree.{agent, name};
 ghost use Rattle.ic_rules.specs.Rule.{Rule};
 ghost use Rattle.ic_settle.specs.Settling.{settled};
-ghost use Rattle.ic_round.specs.Firing.{rule_of_sides};
 ghost use Rattle.ic_confluence.specs.Circle.{cut_at_x, cut_at_y, of_equations, uncut};
 ghost use Rattle.ic_confluence.specs.Sameness.{Rearranges, Renames, Same};
 ghost use Rattle.ic_text.specs.Token.{is_blank};
-ghost use Rattle.ic_nets.specs.Church.{alone, church_false, church_true};
+ghost use Rattle.ic_nets.specs.Likeness.{alone, church_false, church_true, AreAlike, ends, is_bound, ports_at, ports_of, times, wire_named};
 ghost use Rattle.ic_nets.specs.Draws.{has_rules};
-ghost use Rattle.ic_nets.specs.Likeness.{AreAlike};
-ghost use Rattle.ic_nets.specs.Links.{agents_of, links_of};
-ghost use Rattle.ic_nets.specs.Nets.{IsNet};
-ghost use Rattle.ic_nets.specs.Ports.{ends, is_bound, ports_at, ports_of, times, wire_named};
-ghost use Rattle.ic_nets.specs.ReadBack.{IsNaming, read_back};
-ghost use Rattle.ic_nets.specs.Wiring.{named_wires};
+ghost use Rattle.ic_nets.specs.Nets.{IsNet, named_wires};
 ghost use Rattle.ic_nets.specs.declared.links.Standing.{Standing};
 ghost use Rattle.ic_nets.specs.declared.net.Net.{Net};
 ghost use Rattle.ic_nets.specs.declared.port.Port.{Port};
@@ -48,21 +42,6 @@ pub fn names_are_wires()
         ≡ Some (record { from = p; to = Free n; active = false }) }
 {}
 
-/// The agents of a configuration and what it joins say which it is: nothing of its interface and its equations is lost
-/// before names become wires.
-pub fn what_is_joined_says_all()
-    ensures { (rs : List Rule) (c d : Configuration) → length c.interface ≡ length d.interface
-        → agents_of c ≡ agents_of d → links_of rs c ≡ links_of rs d
-        → (c.interface ≡ d.interface) × (c.equations ≡ d.equations) }
-{}
-
-/// As many wires stand out as there are equations whose sides have a rule.
-pub fn active_pairs_stand_out()
-    ensures { (rs : List Rule) (c : Configuration) (net : Net) → IsNet rs c net
-        → count_by (λ w. w.active) net.wires.items
-        ≡ count_by (λ p. is_some (rule_of_sides rs p.left p.right)) c.equations }
-{}
-
 /// A net has no names but free ones: where names are turned into others one-to-one, and free ones stay, the net stays as it
 /// is, to the order of its wires.
 pub fn names_are_forgotten()
@@ -70,28 +49,13 @@ pub fn names_are_forgotten()
         → IsConfiguration c → Renames c d → IsNet rs c net → IsNet rs d net }
 {}
 
-/// A configuration is found again in its net. With a name for each port, an equation for each agent and one for each wire, the
-/// net is a configuration that settles to the net of the configuration settled. There are such names for each net. So
-/// configurations with one net settle to one net.
-pub fn a_configuration_is_found_again()
-    ensures read { (rs : List Rule) (c : Configuration) (net : Net) (name_of : Port → ℕ)
-        (next : ℕ) → IsConfiguration c → IsNet rs c net → IsNaming name_of c.next next net
-        → Same (settled (read_back name_of next net)) (settled (record c { next = next })) }
-    ensures names { (net : Net) (first : ℕ)
-        → (name_of : Port → ℕ) × (next : ℕ) × IsNaming name_of first next net }
+/// Nets that are one graph are of configurations that settle to one net: which number an agent has, and which wire and which of
+/// its ends is named first, says nothing. So configurations with one net settle to one net. The nets of `<|x=A(y),y=B(x)>`,
+/// `<|y=B(A(y))>` and `<|x=A(B(x))>` are one graph.
+pub fn alike_nets_settle_to_one()
     ensures one { (rs : List Rule) (c d : Configuration) (net : Net)
         → IsConfiguration c → IsConfiguration d → IsNet rs c net → IsNet rs d net
         → (next : ℕ) × Same (settled (record c { next = next })) (settled (record d { next = next })) }
-{
-    ic_confluence::laws::same_is_an_equivalence();
-    ic_confluence::laws::same_nets_take_the_same_name_steps();
-    ic_confluence::laws::same_nets_have_the_same_rounds();
-    ic_confluence::laws::every_order_settles_to_the_same_net();
-}
-
-/// Nets that are one graph are of configurations that settle to one net: which number an agent has, and which wire and which of
-/// its ends is named first, says nothing. The nets of `<|x=A(y),y=B(x)>`, `<|y=B(A(y))>` and `<|x=A(B(x))>` are one graph.
-pub fn alike_nets_settle_to_one()
     ensures settled { (rs : List Rule) (c d : Configuration) (m n : Net) → IsConfiguration c
         → IsConfiguration d → IsNet rs c m → IsNet rs d n → AreAlike m n
         → (next : ℕ) × Same (settled (record c { next = next })) (settled (record d { next = next })) }

@@ -5,8 +5,7 @@ ghost use Rattle.ic_term.specs.Tree.{nodes, trees_of};
 ghost use Rattle.ic_term.specs.Term.{tree, cell_tree, pair};
 ghost use Rattle.ic_round.specs.Firing.{rule_of_sides};
 ghost use Rattle.std.specs.Prelude.{is_some};
-ghost use Rattle.ic_nets.specs.Links.{agents_in, agents_of, end_of, equation_link, inside, links_of, pair_agents, pair_links};
-ghost use Rattle.ic_nets.specs.Links.{joined, pairs_agents};
+ghost use Rattle.ic_nets.specs.Nets.{agents_in, agents_of, end_of, equation_link, inside, links_of, pair_agents, pair_links, joined, pairs_agents};
 ghost use Rattle.ic_nets.specs.inner.Hanging.{agents_hung, coming, hung_at, links_hung};
 ghost use Rattle.ic_nets.specs.declared.port.Port.TheVariants.{Interface, Auxiliary};
 

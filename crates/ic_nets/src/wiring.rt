@@ -1,8 +1,7 @@
 //! Wires: what is joined of two ports, and names that stand at ports.
 
 ghost use Rattle.std.specs.Prelude.{◌≡◌, ◌++◌, IfOk, OnOk};
-ghost use Rattle.ic_nets.specs.Wiring.{joints_in, name_wires, plain_wires, standings};
-ghost use Rattle.ic_nets.specs.Wiring.{joins_names, standings_at, wire_of, wires_at, with_standing};
+ghost use Rattle.ic_nets.specs.Nets.{joints_in, name_wires, plain_wires, standings, joins_names, standings_at, wire_of, wires_at, with_standing};
 ghost use Rattle.indexmap.specs.IndexMap.{values};
 
 use crate::links::{End, Link, Standing};

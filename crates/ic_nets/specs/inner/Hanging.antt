@@ -5,7 +5,7 @@ use Rattle.std.specs.Borrow.{Bor}
 use Rattle.ic_term.specs.declared.term.Term.{Term}
 use Rattle.ic_term.specs.Tree.{Tree}
 use Rattle.ic_term.specs.Term.{tree}
-use Rattle.ic_nets.specs.Links.{agents_in, hung, inside}
+use Rattle.ic_nets.specs.Nets.{agents_in, hung, inside}
 use Rattle.ic_nets.specs.declared.net.Agent.{Agent}
 use Rattle.ic_nets.specs.declared.port.Port.{Port}
 use Rattle.ic_nets.specs.declared.links.Link.{Link}

@@ -1,5 +1,5 @@
 use Rattle.std.proofs.Common.{refl}
-use Rattle.ic_nets.specs.Church.{alone, church_false, church_true}
+use Rattle.ic_nets.specs.Likeness.{alone, church_false, church_true}
 use Rattle.ic_nets.proofs.PartedLemmas.{parted}
 use Rattle.ic_nets.proofs.SameLemmas.{only_renamed, true_isnt_false}
 use Rattle.ic_nets.proofs.laws.same_nets_are_renamed_and_rearranged.Goals as goal

@@ -1,6 +1,6 @@
 use Rattle.std.proofs.Common.{◌≡◌, ◌++◌, map, drop, length}
 use Rattle.ic_term.specs.Term.{pair}
-use Rattle.ic_nets.specs.Links.{joined, pairs_agents}
+use Rattle.ic_nets.specs.Nets.{joined, pairs_agents}
 use Rattle.ic_nets.proofs.sketch.add_equations.Given as goal
 
 -- what is there, and what is left to add

@@ -1,6 +1,6 @@
 use Rattle.std.proofs.Common.{◌≡◌, ◌∙◌, ◌++◌, [], length}
 use Rattle.ic_term.specs.Tree.{trees_of}
-use Rattle.ic_nets.specs.Links.{agents_among, hanging, joined, pairs_agents}
+use Rattle.ic_nets.specs.Nets.{agents_among, hanging, joined, pairs_agents}
 use Rattle.ic_nets.specs.inner.Hanging.{coming, hung_at, links_hung}
 use Rattle.ic_nets.specs.declared.port.Port.TheVariants.{Interface}
 use Rattle.ic_nets.proofs.HangingLemmas.{interface-agents, interface-links}

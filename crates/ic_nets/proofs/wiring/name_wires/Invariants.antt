@@ -1,5 +1,5 @@
 use Rattle.std.proofs.Common.{◌≡◌, [], drop, fold}
-use Rattle.ic_nets.specs.Wiring.{with_standing}
+use Rattle.ic_nets.specs.Nets.{with_standing}
 use Rattle.ic_nets.proofs.wiring.name_wires.Given as goal
 
 -- those left lead from the wires so far to all

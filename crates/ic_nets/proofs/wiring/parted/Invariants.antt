@@ -1,5 +1,5 @@
 use Rattle.std.proofs.Common.{◌≡◌, ◌+◌, ◌≤◌, ◌++◌, drop}
-use Rattle.ic_nets.specs.Wiring.{joints_in, plain_wires, standings}
+use Rattle.ic_nets.specs.Nets.{joints_in, plain_wires, standings}
 use Rattle.ic_nets.proofs.wiring.parted.Given as goal
 
 -- what is there, and what is left to add

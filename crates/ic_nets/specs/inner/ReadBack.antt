@@ -1,8 +1,8 @@
--- A net read back: a configuration with a name for each port, and an equation for each agent and wire.
+-- For proofs: a net read back, as a configuration with a name for each port, and an equation for each agent and wire.
 use Rattle.std.specs.Prelude.{◌≡◌, ℕ, zero, suc, ◌+◌, ◌<◌, ◌≤◌, List, [], ◌∷◌, ◌++◌, true, map}
 use Rattle.ic_term.specs.Tree.{Tree, name, agent, trees_of, Pair}
 use Rattle.ic_term.specs.Configuration.{Configuration}
-use Rattle.ic_nets.specs.Ports.{counted_ports, is_bound, ports_of, times}
+use Rattle.ic_nets.specs.Likeness.{counted_ports, is_bound, ports_of, times}
 use Rattle.ic_nets.specs.declared.net.Agent.{Agent}
 use Rattle.ic_nets.specs.declared.net.Net.{Net}
 use Rattle.ic_nets.specs.declared.net.Wire.{Wire}
