@@ -8,8 +8,8 @@ use Rattle.std.proofs.lemmas.Bool.{or_left, or_right, or_cases}
 use Rattle.ic_rules.specs.Rule.{Rule}
 use Rattle.ic_rules.specs.lemmas.NumberingLaws.{self_eq as is_itself}
 use Rattle.ic_term.specs.Configuration.{Configuration}
-use Rattle.ic_check.specs.Symbols.{config_symbols}
-use Rattle.ic_check.specs.Reach.{AllAmong, IsKeptBy, IsReach}
+use Rattle.ic_confluence.specs.Agents.{configuration_symbols}
+use Rattle.ic_check.specs.Warnings.{AllAmong, IsKeptBy, IsReach}
 use Rattle.ic_check.specs.inner.Growing.{AreMakings, Grows, HasNoReady, IsKept, IsMaking, IsReady, IsReadyAt, Joins, holds, with_symbol}
 use Rattle.ic_check.specs.declared.reach.Making.{Making}
 use Rattle.ic_check.proofs.Listing.{from_place}
@@ -228,19 +228,19 @@ all_kept_from among (r ∷ rs) (m ∷ ms) are all = (kept_from among r m are.0 a
 all_kept_from among _ _ are all = absurd are
 
 -- symbols of the configuration, joined and grown, are the reach
-pub is_reach : (rs : List Rule) (c : Configuration) (symbols first seen : List ℕ) (ms : List Making) → symbols ≡ config_symbols c → Joins [] symbols first
+pub is_reach : (rs : List Rule) (c : Configuration) (symbols first seen : List ℕ) (ms : List Making) → symbols ≡ configuration_symbols c → Joins [] symbols first
     → AreMakings rs ms → Grows ms first seen → IsReach rs c (holds seen)
 is_reach rs c symbols first seen ms are joins makings grows = record {
   closed = record {
-    begins = all_from (holds seen) (config_symbols c) (λ s e. grows.keeps s (joins.has s (subst (λ (l : List ℕ). IsTrue (holds l s)) (sym are) e)));
+    begins = all_from (holds seen) (configuration_symbols c) (λ s e. grows.keeps s (joins.has s (subst (λ (l : List ℕ). IsTrue (holds l s)) (sym are) e)));
     goes_on = all_kept_by (holds seen) rs ms makings grows.closed;
   };
   least = λ other closed s e. grows.least other (all_kept_from other rs ms makings closed.goes_on) (λ t it. first_among other closed.begins t (joins.no_other t it)) s e;
 }
   where
-    first_among : (other : ℕ → Bool) → AllAmong other (config_symbols c) → (t : ℕ) → IsTrue (holds [] t) ⊎ IsTrue (holds symbols t) → IsTrue (other t)
+    first_among : (other : ℕ → Bool) → AllAmong other (configuration_symbols c) → (t : ℕ) → IsTrue (holds [] t) ⊎ IsTrue (holds symbols t) → IsTrue (other t)
     first_among other begins t (inl none) = cc
-    first_among other begins t (inr there) = all_holds other (config_symbols c) begins t (subst (λ (l : List ℕ). IsTrue (holds l t)) are there)
+    first_among other begins t (inr there) = all_holds other (configuration_symbols c) begins t (subst (λ (l : List ℕ). IsTrue (holds l t)) are there)
 
 -- ---- what rules make
 

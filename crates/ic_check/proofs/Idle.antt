@@ -16,7 +16,7 @@ use Rattle.ic_round.specs.Firing.{Active, oriented, rule_of_sides}
 use Rattle.ic_round.specs.Steps.{Interaction, Step, Steps, collect, indirection, interaction, no_steps, then_step}
 use Rattle.ic_round.specs.lemmas.NameStepLemmas.{collect_step, indirection_step}
 use Rattle.ic_round.specs.lemmas.FreshNames.{occurrences-cons as count_cons}
-use Rattle.ic_check.specs.Meeting.{are_apart, are_once, has_use, is_agent, joins_agents, pair_sides, side_names}
+use Rattle.ic_check.specs.Warnings.{are_apart, are_once, has_use, is_agent, joins_agents, pair_sides, side_names}
 use Rattle.ic_check.specs.inner.Tallies.{IsTally, tallied}
 use Rattle.ic_check.proofs.Tallying.{same_once}
 

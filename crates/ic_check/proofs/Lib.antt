@@ -3,13 +3,10 @@ pub mod Growth
 pub mod Warned
 pub mod Tallying
 pub mod Idle
-pub mod Capitals
 pub mod Split
 pub mod Reached
 pub mod Stuck
-pub mod Once
 pub mod EachWarning
-pub mod EachSymbol
 pub mod Forms
 pub mod Looks
 pub mod LookedAt

@@ -1,11 +1,11 @@
 -- A list that is written item by item.
 use Rattle.std.proofs.Common.{◌≡◌, ℕ, suc, ◌+◌, ◌<◌, List, [], ◌∷◌, ◌++◌, length, drop, drop-cons, get_or, add-one, map, sym, ap, ◌∙◌, append_assoc}
-use Rattle.ic_term.specs.Tree.{agent, names, names_of, trees_of}
+use Rattle.ic_term.specs.Tree.{agent, trees_of}
 use Rattle.ic_term.specs.Term.{cell_tree, tree}
 use Rattle.ic_term.specs.lemmas.TermLaws.{cell_tree-out}
 use Rattle.ic_term.specs.declared.term.Cell.{Cell, out-Cell}
 use Rattle.ic_term.specs.declared.term.Term.{Term}
-use Rattle.ic_check.specs.Symbols.{symbols, symbols_of}
+use Rattle.ic_confluence.specs.Agents.{symbols, symbols_of}
 
 pub from_place : {X : Type 0} (xs : List X) (i : ℕ) (x : X) → i < length xs → x ≡ get_or xs i x → drop i xs ≡ x ∷ drop (i + 1) xs
 from_place xs i x below is = rw add-one (drop-cons xs i x below ∙ ap (λ y. y ∷ drop (suc i) xs) (sym is))
@@ -24,8 +24,3 @@ pub agent_begun : (cell : Cell) (ts : List Term) (old new : List ℕ) → ts ≡
 agent_begun cell ts old new are put =
     ap (λ l. l ++ symbols_of (trees_of (map tree ts))) put ∙ append_assoc old ((out-Cell cell).sym ∷ []) (symbols_of (trees_of (map tree ts)))
     ∙ ap (λ us. old ++ symbols (agent (out-Cell cell).sym (trees_of (map tree us)))) are ∙ ap (λ t. old ++ symbols t) (sym (cell_tree-out cell))
-
--- the names of an agent are those of its arguments
-pub agent_opened : (cell : Cell) (ts : List Term) (old : List ℕ) → ts ≡ (out-Cell cell).args.items → old ++ names_of (trees_of (map tree ts)) ≡ old ++ names (cell_tree cell)
-agent_opened cell ts old are =
-    ap (λ us. old ++ names (agent (out-Cell cell).sym (trees_of (map tree us)))) are ∙ ap (λ t. old ++ names t) (sym (cell_tree-out cell))

@@ -20,9 +20,8 @@ use Rattle.ic_round.specs.lemmas.ActiveRules.{FitsRule, oriented_rule, sides_fit
 use Rattle.ic_round.specs.lemmas.FiredNames.{SidesOf, active_sides_of}
 use Rattle.ic_round.specs.lemmas.RoundLemmas.{round_is_over}
 use Rattle.ic_round.specs.lemmas.SettledLemmas.{settled_over}
-use Rattle.ic_check.specs.Symbols.{config_symbols, made_symbols, pair_symbols, symbols, symbols_of}
-use Rattle.ic_check.specs.Reach.{AllAmong, IsClosed, IsKeptBy, IsReach, IsTakenBy}
-use Rattle.ic_check.specs.Warnings.{unused}
+use Rattle.ic_confluence.specs.Agents.{configuration_symbols, pair_symbols, symbols, symbols_of}
+use Rattle.ic_check.specs.Warnings.{made_symbols, AllAmong, IsClosed, IsKeptBy, IsReach, IsTakenBy, unused}
 use Rattle.ic_settle.specs.lemmas.SubstitutionLaws.{and_both}
 
 -- ---- all of two lists
@@ -142,14 +141,14 @@ pairs_among among ss (e ∷ es) over too =
     (all_both among (symbols e.left) (symbols e.right) (tree_among among ss e.left sides.0 others.0) (tree_among among ss e.right sides.1 others.1))
     (pairs_among among ss es parts.1 more.1)
 
-config_masked : (among : ℕ → Bool) (ss : List Symbol) (c : Configuration) → is_over ss c ≡ true → AllAmong among (config_symbols c) → is_over (mask among ss) c ≡ true
+config_masked : (among : ℕ → Bool) (ss : List Symbol) (c : Configuration) → is_over ss c ≡ true → AllAmong among (configuration_symbols c) → is_over (mask among ss) c ≡ true
 config_masked among ss c over all =
     let parts = and_parts (list_all (is_tree_over ss) c.interface) (list_all (is_pair_over ss) c.equations) over in
     let front = flat_map symbols c.interface in
     let back = flat_map pair_symbols c.equations in
     and_both (list_masked among ss c.interface parts.0 (all_left among front back all)) (pairs_masked among ss c.equations parts.1 (all_right among front back all))
 
-config_among : (among : ℕ → Bool) (ss : List Symbol) (c : Configuration) → is_over ss c ≡ true → is_over (mask among ss) c ≡ true → AllAmong among (config_symbols c)
+config_among : (among : ℕ → Bool) (ss : List Symbol) (c : Configuration) → is_over ss c ≡ true → is_over (mask among ss) c ≡ true → AllAmong among (configuration_symbols c)
 config_among among ss c over too =
     let parts = and_parts (list_all (is_tree_over ss) c.interface) (list_all (is_pair_over ss) c.equations) over in
     let more = and_parts (list_all (is_tree_over (mask among ss)) c.interface) (list_all (is_pair_over (mask among ss)) c.equations) too in
@@ -288,7 +287,7 @@ rounds_among rs c among (suc n) set over closed =
     (round_is_over rs d set before.0, settled_over (mask among rs.symbols) (fired rs.rules d) (fired_among rs d among set closed.goes_on before.0 before.1))
 
 pub symbols_stay : (rs : Rules) (c : Configuration) (among : ℕ → Bool) (n : ℕ) → IsRuleSet rs → is_over rs.symbols c ≡ true → IsReach rs.rules c among
-    → AllAmong among (config_symbols (iterate rs.rules n c))
+    → AllAmong among (configuration_symbols (iterate rs.rules n c))
 symbols_stay rs c among n set over reach =
     let both = rounds_among rs c among n set over reach.closed in config_among among rs.symbols (iterate rs.rules n c) both.0 both.1
 

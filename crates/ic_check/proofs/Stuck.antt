@@ -16,8 +16,7 @@ use Rattle.ic_settle.specs.lemmas.SubstitutionLaws.{and_both}
 use Rattle.ic_round.specs.Firing.{Active, active_pair, oriented, products_by, rule_of_sides}
 use Rattle.ic_round.specs.Steps.{Interaction, Step, Steps, collect, indirection, interaction, no_steps, then_step}
 use Rattle.ic_round.specs.lemmas.NameStepLemmas.{collect_step, indirection_step}
-use Rattle.ic_check.specs.Meanings.{HasNoRule, faces, facing, is_of}
-use Rattle.ic_check.specs.Warnings.{ruleless}
+use Rattle.ic_check.specs.Warnings.{HasNoRule, faces, facing, is_of, ruleless}
 
 -- ---- what is found
 

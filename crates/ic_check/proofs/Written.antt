@@ -36,8 +36,3 @@ grows_by old new bytes put = record { more = bytes; appended = put }
 pub grows_either : {T E : Type 0} (r : Result T E) (old new : Option (List ℕ)) (bytes : List ℕ) → OnOk r (Appends old new bytes) → OnErr r (AppendsFront old new [] bytes) → Grows old new
 grows_either (Ok v) old new bytes all front = grows_by old new bytes all
 grows_either (Err e) old new bytes all front = grows_front old new bytes front
-
--- what is so holds also at a fault
-pub at_fault : {T E : Type 0} (P : Type 0) (r : Result T E) → P → OnErr r P
-at_fault P (Ok v) p = tt
-at_fault P (Err e) p = p

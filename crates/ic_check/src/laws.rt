@@ -1,11 +1,11 @@
 //! What is proved of the definitions alone: each law is the contract of a function that does nothing, or calls the laws
 //! that it comes of.
 
-ghost use Rattle.std.specs.Prelude.{◌≡◌, ◌≢◌, ◌≤◌, ◌⊎◌, ◌+◌, ◌==◌, ◌&&◌, ◌∷◌, ◌++◌, ℕ, List, [], Bool, Some, IsTrue, codes, slice_get, false, true};
+ghost use Rattle.std.specs.Prelude.{◌≡◌, ◌≢◌, ◌≤◌, ◌+◌, ◌==◌, ◌&&◌, ◌∷◌, ◌++◌, ℕ, List, [], Bool, Some, IsTrue, codes, slice_get, false, true};
 ghost use Rattle.std.specs.List.{AllByRecursion, list_all};
-ghost use Rattle.ic_term.specs.Configuration.{Configuration, configuration_names};
-ghost use Rattle.ic_term.specs.Symbol.{Symbol, is_over};
-ghost use Rattle.ic_term.specs.Tree.{Pair, Tree, Trees, agent, list_of};
+ghost use Rattle.ic_term.specs.Configuration.{Configuration};
+ghost use Rattle.ic_term.specs.Symbol.{is_over};
+ghost use Rattle.ic_term.specs.Tree.{Pair};
 ghost use Rattle.ic_rules.specs.Rule.{Rule};
 ghost use Rattle.ic_rules.specs.RuleSet.{IsRuleSet, Rules};
 ghost use Rattle.ic_round.specs.Firing.{Active, active_pair};
@@ -15,12 +15,8 @@ ghost use Rattle.ic_text.specs.Token.{is_blank};
 ghost use Rattle.ic_check.specs.declared.texts.Form.TheVariants as form;
 ghost use Rattle.ic_check.specs.declared.warnings.Warnings.{Warnings};
 ghost use Rattle.ic_check.specs.Faults.{ScriptHasFault, TextHasFault, form_of};
-ghost use Rattle.ic_check.specs.Meanings.{Has, HasNoRule, StandsIn, StandsOnce, faces, facing, is_among};
-ghost use Rattle.ic_check.specs.Letters.{looks_like_name};
-ghost use Rattle.ic_check.specs.Meeting.{are_apart, has_use};
-ghost use Rattle.ic_check.specs.Reach.{AllAmong, IsReach, IsTakenBy};
-ghost use Rattle.ic_check.specs.Symbols.{config_symbols, text_symbols};
-ghost use Rattle.ic_check.specs.Warnings.{AreWarnings, once, ruleless, unused};
+ghost use Rattle.ic_confluence.specs.Agents.{configuration_symbols};
+ghost use Rattle.ic_check.specs.Warnings.{Has, HasNoRule, faces, facing, are_apart, has_use, AllAmong, IsReach, IsTakenBy, AreWarnings, ruleless, unused};
 
 /// A text has a fault or has none, and never both, and so has a script. A verdict on texts that are given says which.
 pub fn a_text_has_a_fault_or_none()
@@ -72,42 +68,20 @@ pub fn pairs_without_a_rule_are_stuck()
     ic_round::laws::rounds_are_steps();
 }
 
-/// A symbol or a name is one that stands only once exactly where it stands at just one place among all that are gone
-/// through.
-pub fn what_stands_once_stands_at_one_place()
-    ensures found { (all : List ℕ) (s : ℕ) → StandsOnce s all → once all s ≡ s ∷ [] }
-    ensures silent { (all : List ℕ) (s : ℕ) → ¬ StandsOnce s all → once all s ≡ [] }
-{}
-
-/// Each warning is among those of its system: the symbols of an equation of two agents that no rule is of, a symbol at
-/// just one place, the place of a rule whose symbols can't both come to stand in the configuration, a name at just one
-/// place of it, that no two agents can meet, where a rule may be used as far as its symbols tell, and a symbol that looks
-/// like a name.
+/// Each warning that speaks of pairs and rules is among those of its system: the symbols of an equation of two agents that
+/// no rule is of, the place of a rule whose symbols can't both come to stand in the configuration, and that no two agents
+/// can meet, where a rule may be used as far as its symbols tell.
 pub fn each_warning_is_found()
     ensures ruleless { (rs : Rules) (c : Configuration) (w : Warnings) (i a b : ℕ) (p : Pair)
         → AreWarnings rs c w → slice_get c.equations i ≡ Some p → faces a b p ≡ true
         → HasNoRule rs.rules a b → Has w.ruleless.items (a, b) }
-    ensures once { (rs : Rules) (c : Configuration) (w : Warnings) (i : ℕ) (s : Symbol)
-        → AreWarnings rs c w → slice_get rs.symbols i ≡ Some s
-        → StandsOnce i (text_symbols rs.rules c) → Has w.once.items i }
     ensures unused { (rs : Rules) (c : Configuration) (w : Warnings) (among : ℕ → Bool) (i : ℕ)
         (r : Rule) → AreWarnings rs c w → IsReach rs.rules c among
         → slice_get rs.rules i ≡ Some r → (among r.left && among r.right) ≡ false
         → Has w.unused.items i }
-    ensures free { (rs : Rules) (c : Configuration) (w : Warnings) (n : ℕ) → AreWarnings rs c w
-        → StandsOnce n (configuration_names c) → Has w.free.items n }
     ensures meeting { (rs : Rules) (c : Configuration) (w : Warnings) (among : ℕ → Bool)
         → AreWarnings rs c w → IsReach rs.rules c among
         → w.none_meet ≡ (has_use among rs.rules && are_apart c.equations) }
-    ensures letter { (rs : Rules) (c : Configuration) (w : Warnings) (i : ℕ) (s : Symbol)
-        → AreWarnings rs c w → slice_get rs.symbols i ≡ Some s
-        → IsTrue (looks_like_name rs.rules i s.text s.arity) → Has w.letters.items i }
-{}
-
-/// A symbol that looks like a name has no rule with any other symbol.
-pub fn symbols_that_look_like_names_have_no_rule()
-    ensures { (rs : List Rule) (i other : ℕ) (text : List ℕ) (arity : ℕ)
-        → IsTrue (looks_like_name rs i text arity) → HasNoRule rs i other }
 {}
 
 /// Where no two agents can meet, none ever do: whatever steps are made, no interaction comes to be possible, and none is
@@ -121,24 +95,6 @@ pub fn where_none_meet_none_ever_do()
     ic_round::laws::rounds_are_steps();
 }
 
-/// The symbols that are gone through, of which one may stand only once, are those of the whole text: of both sides of
-/// each rule, of their arguments, of the interface and of the equations, however deep they stand.
-pub fn each_symbol_of_a_text_is_gone_through()
-    ensures sides { (rs : List Rule) (c : Configuration) (i : ℕ) (r : Rule)
-        → slice_get rs i ≡ Some r → (is_among r.left (text_symbols rs c) ≡ true)
-        × (is_among r.right (text_symbols rs c) ≡ true) }
-    ensures arguments { (rs : List Rule) (c : Configuration) (i j s : ℕ) (r : Rule) (t : Tree)
-        → slice_get rs i ≡ Some r
-        → (slice_get r.left_args j ≡ Some t) ⊎ (slice_get r.right_args j ≡ Some t)
-        → StandsIn s t → is_among s (text_symbols rs c) ≡ true }
-    ensures interface { (rs : List Rule) (c : Configuration) (j s : ℕ) (t : Tree)
-        → slice_get c.interface j ≡ Some t → StandsIn s t
-        → is_among s (text_symbols rs c) ≡ true }
-    ensures equations { (rs : List Rule) (c : Configuration) (j s : ℕ) (p : Pair)
-        → slice_get c.equations j ≡ Some p → StandsIn s p.left ⊎ StandsIn s p.right
-        → is_among s (text_symbols rs c) ≡ true }
-{}
-
 /// A rule that is one which is never used is used by no round: after any number of rounds no equation is active by it.
 /// The symbols that may come to stand in the configuration are all that ever do, and which they are is settled.
 pub fn unused_rules_are_never_used()
@@ -148,18 +104,14 @@ pub fn unused_rules_are_never_used()
         → AllByRecursion (λ p. ¬ IsTakenBy rs.rules i p) (iterate rs.rules n c).equations }
     ensures symbols { (rs : Rules) (c : Configuration) (among : ℕ → Bool) (n : ℕ) → IsRuleSet rs
         → IsTrue (is_over rs.symbols c) → IsReach rs.rules c among
-        → AllAmong among (config_symbols (iterate rs.rules n c)) }
+        → AllAmong among (configuration_symbols (iterate rs.rules n c)) }
     ensures one { (rs : List Rule) (c : Configuration) (among other : ℕ → Bool)
         → IsReach rs c among → IsReach rs c other → (s : ℕ) → among s ≡ other s }
 {}
 
-/// What is said of terms and equations does hold of some: each agent stands in its term, in whichever argument. An
-/// equation of two symbols is counted once, and no other one. An equation that is active by a rule is taken by that
-/// rule.
+/// What is said of equations does hold of some. One of two symbols is counted once, and no other one, and one that is active
+/// by a rule is taken by that rule.
 pub fn what_stands_there_is_found()
-    ensures itself { (s : ℕ) (ts : Trees) → StandsIn s (agent s ts) }
-    ensures argument { (s r j : ℕ) (ts : Trees) (t : Tree) → slice_get (list_of ts) j ≡ Some t
-        → StandsIn s t → StandsIn s (agent r ts) }
     ensures faced { (a b : ℕ) (p : Pair) (es : List Pair) → faces a b p ≡ true
         → facing a b (p ∷ es) ≡ facing a b es + 1 }
     ensures other { (a b : ℕ) (p : Pair) (es : List Pair) → faces a b p ≡ false

@@ -1,31 +1,16 @@
 //! Which symbols look like names, as variables are written elsewhere.
 
-ghost use Rattle.std.specs.Prelude.{◌≡◌, IfOk};
-ghost use Rattle.std.specs.List.{list_any};
-ghost use Rattle.ic_check.specs.Letters.{is_capital, is_letter, is_side, looks_like_name, makes_twice};
-ghost use Rattle.ic_check.specs.Warnings.{count_of};
-
 use crate::symbols::made_symbols;
 use ic_rules::Rule;
 use std::alloc::{AllocError, Global};
 
 /// How often a symbol occurs among these.
-pub(crate) fn count_of(symbols: &[u32], symbol: u32) -> usize
-    ensures { result ≡ count_of symbols.now symbol }
-{
-    let mut count = 0;
-    for other in symbols {
-        if *other == symbol {
-            count += 1;
-        }
-    }
-    count
+pub(crate) fn count_of(symbols: &[u32], symbol: u32) -> usize {
+    symbols.iter().filter(|other| **other == symbol).count()
 }
 
 /// Whether a text is one capital letter.
-fn is_capital(text: &[u8]) -> bool
-    ensures { result ≡ is_capital text.now }
-{
+fn is_capital(text: &[u8]) -> bool {
     match text.split_first() {
         None => false,
         Some((letter, rest)) => letter.is_ascii_uppercase() && rest.is_empty(),
@@ -33,23 +18,17 @@ fn is_capital(text: &[u8]) -> bool
 }
 
 /// Whether a symbol of this text and arity is written as a name could be.
-fn is_letter(text: &[u8], arity: usize) -> bool
-    ensures { result ≡ is_letter text.now arity }
-{
+fn is_letter(text: &[u8], arity: usize) -> bool {
     is_capital(text) && arity == 0
 }
 
 /// Whether a symbol is a side of a rule.
-fn is_side(symbol: u32, rule: &Rule) -> bool
-    ensures { result ≡ is_side symbol rule.now }
-{
+fn is_side(symbol: u32, rule: &Rule) -> bool {
     rule.left() == symbol || rule.right() == symbol
 }
 
 /// Whether a symbol is a side of one of these rules.
-fn is_any_side(symbol: u32, rules: &[Rule]) -> bool
-    ensures { result ≡ list_any (is_side symbol) rules.now }
-{
+fn is_any_side(symbol: u32, rules: &[Rule]) -> bool {
     for rule in rules {
         if is_side(symbol, rule) {
             return true;
@@ -59,17 +38,13 @@ fn is_any_side(symbol: u32, rules: &[Rule]) -> bool
 }
 
 /// Whether a rule makes a symbol at least twice.
-fn makes_twice(alloc: Global, symbol: u32, rule: &Rule) -> Result<bool, AllocError>
-    ensures { IfOk result (λ twice. twice ≡ makes_twice symbol rule.now) }
-{
+fn makes_twice(alloc: Global, symbol: u32, rule: &Rule) -> Result<bool, AllocError> {
     let made = made_symbols(alloc, rule)?;
     Ok(2 <= count_of(&made, symbol))
 }
 
 /// Whether one of these rules makes a symbol at least twice.
-fn any_makes_twice(alloc: Global, symbol: u32, rules: &[Rule]) -> Result<bool, AllocError>
-    ensures { IfOk result (λ any. any ≡ list_any (makes_twice symbol) rules.now) }
-{
+fn any_makes_twice(alloc: Global, symbol: u32, rules: &[Rule]) -> Result<bool, AllocError> {
     for rule in rules {
         if makes_twice(alloc, symbol, rule)? {
             return Ok(true);
@@ -85,9 +60,7 @@ pub(crate) fn looks_like_name(
     symbol: u32,
     text: &[u8],
     arity: usize,
-) -> Result<bool, AllocError>
-    ensures { IfOk result (λ looks. looks ≡ looks_like_name rules.now symbol text.now arity) }
-{
+) -> Result<bool, AllocError> {
     if !is_letter(text, arity) {
         return Ok(false);
     }

@@ -3,7 +3,7 @@
 ghost use Rattle.std.specs.Prelude.{◌≡◌, ◌==◌, ◌++◌, IfOk, OnOk, map};
 ghost use Rattle.std.specs.List.{flat_map, list_all, list_any};
 ghost use Rattle.ic_term.specs.Term.{pair, tree};
-ghost use Rattle.ic_check.specs.Meeting.{are_apart, is_agent, joins_agents, pair_sides, side_names};
+ghost use Rattle.ic_check.specs.Warnings.{are_apart, is_agent, joins_agents, pair_sides, side_names};
 ghost use Rattle.ic_check.specs.inner.Tallies.{tallied};
 
 use crate::names::{stands_once, tally};

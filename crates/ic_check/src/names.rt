@@ -1,10 +1,6 @@
 //! The names of a configuration, in the order of the text, and which of them stand there once.
 
-ghost use Rattle.std.specs.Prelude.{◌≡◌, ◌==◌, ◌++◌, map, IfOk, OnOk};
-ghost use Rattle.std.specs.List.{flat_map};
-ghost use Rattle.ic_term.specs.Configuration.{configuration_names};
-ghost use Rattle.ic_term.specs.Term.{cell_tree, pair, tree};
-ghost use Rattle.ic_term.specs.Tree.{names, pair_names};
+ghost use Rattle.std.specs.Prelude.{◌≡◌, ◌==◌, IfOk};
 ghost use Rattle.ic_check.specs.inner.Tallies.{IsTally, tallied};
 
 use ic_names::NameTable;
@@ -13,9 +9,7 @@ use std::alloc::{AllocError, Global};
 
 /// Appends the names of a term. It recurses as deep as the term.
 #[cycle(put)]
-fn put_term(term: &Term, out: &mut Vec<u64>) -> Result<(), AllocError>
-    ensures { OnOk result (out.new.items ≡ out.old.items ++ names (tree term.now)) }
-{
+fn put_term(term: &Term, out: &mut Vec<u64>) -> Result<(), AllocError> {
     match term {
         Term::Name(name) => {
             out.push(*name)?;
@@ -26,9 +20,7 @@ fn put_term(term: &Term, out: &mut Vec<u64>) -> Result<(), AllocError>
 }
 
 #[cycle(put)]
-fn put_cell(cell: &Cell, out: &mut Vec<u64>) -> Result<(), AllocError>
-    ensures { OnOk result (out.new.items ≡ out.old.items ++ names (cell_tree cell.now)) }
-{
+fn put_cell(cell: &Cell, out: &mut Vec<u64>) -> Result<(), AllocError> {
     for term in &cell.args {
         put_term(term, out)?;
     }
@@ -36,28 +28,20 @@ fn put_cell(cell: &Cell, out: &mut Vec<u64>) -> Result<(), AllocError>
 }
 
 /// Appends the names of terms.
-fn put_terms(terms: &[Term], out: &mut Vec<u64>) -> Result<(), AllocError>
-    ensures { OnOk result
-        (out.new.items ≡ out.old.items ++ flat_map names (map tree terms.now)) }
-{
+fn put_terms(terms: &[Term], out: &mut Vec<u64>) -> Result<(), AllocError> {
     for term in terms {
         put_term(term, out)?;
     }
     Ok(())
 }
 
-fn put_equation(equation: &Equation, out: &mut Vec<u64>) -> Result<(), AllocError>
-    ensures { OnOk result (out.new.items ≡ out.old.items ++ pair_names (pair equation.now)) }
-{
+fn put_equation(equation: &Equation, out: &mut Vec<u64>) -> Result<(), AllocError> {
     put_term(&equation.left, out)?;
     put_term(&equation.right, out)
 }
 
 /// Appends the names of equations.
-fn put_equations(equations: &[Equation], out: &mut Vec<u64>) -> Result<(), AllocError>
-    ensures { OnOk result
-        (out.new.items ≡ out.old.items ++ flat_map pair_names (map pair equations.now)) }
-{
+fn put_equations(equations: &[Equation], out: &mut Vec<u64>) -> Result<(), AllocError> {
     for equation in equations {
         put_equation(equation, out)?;
     }
@@ -65,17 +49,13 @@ fn put_equations(equations: &[Equation], out: &mut Vec<u64>) -> Result<(), Alloc
 }
 
 /// Appends the names of a configuration.
-fn put_config(config: &Config, out: &mut Vec<u64>) -> Result<(), AllocError>
-    ensures { OnOk result (out.new.items ≡ out.old.items ++ configuration_names config.now) }
-{
+fn put_config(config: &Config, out: &mut Vec<u64>) -> Result<(), AllocError> {
     put_terms(config.interface(), out)?;
     put_equations(config.equations(), out)
 }
 
 /// The names of a configuration, each as often as it occurs.
-pub(crate) fn config_names(alloc: Global, config: &Config) -> Result<Vec<u64>, AllocError>
-    ensures { IfOk result (λ all. all.items ≡ configuration_names config.now) }
-{
+pub(crate) fn config_names(alloc: Global, config: &Config) -> Result<Vec<u64>, AllocError> {
     let mut all = Vec::new(alloc);
     put_config(config, &mut all)?;
     Ok(all)

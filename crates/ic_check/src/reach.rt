@@ -1,7 +1,7 @@
 //! The symbols that rules can bring into a configuration.
 
 ghost use Rattle.std.specs.Prelude.{◌≡◌, IfOk, IfSome, IsNone, OnOk};
-ghost use Rattle.ic_check.specs.Reach.{IsReach};
+ghost use Rattle.ic_check.specs.Warnings.{IsReach};
 ghost use Rattle.ic_check.specs.inner.Growing.{AreMakings, Grows, HasNoReady, IsMaking, IsReadyAt, Joins, holds, with_symbol};
 
 use crate::symbols::{made_symbols, put_config};

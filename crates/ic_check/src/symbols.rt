@@ -3,7 +3,8 @@
 ghost use Rattle.std.specs.Prelude.{◌≡◌, ◌++◌, map, IfOk, OnOk};
 ghost use Rattle.std.specs.List.{flat_map};
 ghost use Rattle.ic_term.specs.Term.{cell_tree, pair, tree};
-ghost use Rattle.ic_check.specs.Symbols.{symbols, pair_symbols, config_symbols, made_symbols, rule_symbols, text_symbols};
+ghost use Rattle.ic_confluence.specs.Agents.{symbols, pair_symbols, configuration_symbols};
+ghost use Rattle.ic_check.specs.Warnings.{made_symbols};
 
 use ic_rules::Rule;
 use ic_term::{Cell, Config, Equation, Term};
@@ -63,7 +64,7 @@ fn put_equations(equations: &[Equation], out: &mut Vec<u32>) -> Result<(), Alloc
 
 /// Appends the symbols of a configuration.
 pub(crate) fn put_config(config: &Config, out: &mut Vec<u32>) -> Result<(), AllocError>
-    ensures { OnOk result (out.new.items ≡ out.old.items ++ config_symbols config.now) }
+    ensures { OnOk result (out.new.items ≡ out.old.items ++ configuration_symbols config.now) }
 {
     put_terms(config.interface(), out)?;
     put_equations(config.equations(), out)
@@ -87,18 +88,14 @@ pub(crate) fn made_symbols(alloc: Global, rule: &Rule) -> Result<Vec<u32>, Alloc
 }
 
 /// Appends the symbols of a rule.
-fn put_rule(rule: &Rule, out: &mut Vec<u32>) -> Result<(), AllocError>
-    ensures { OnOk result (out.new.items ≡ out.old.items ++ rule_symbols rule.now) }
-{
+fn put_rule(rule: &Rule, out: &mut Vec<u32>) -> Result<(), AllocError> {
     out.push(rule.left())?;
     out.push(rule.right())?;
     put_made(rule, out)
 }
 
 /// Appends the symbols of rules.
-fn put_rules(rules: &[Rule], out: &mut Vec<u32>) -> Result<(), AllocError>
-    ensures { OnOk result (out.new.items ≡ out.old.items ++ flat_map rule_symbols rules.now) }
-{
+fn put_rules(rules: &[Rule], out: &mut Vec<u32>) -> Result<(), AllocError> {
     for rule in rules {
         put_rule(rule, out)?;
     }
@@ -110,9 +107,7 @@ pub(crate) fn text_symbols(
     alloc: Global,
     rules: &[Rule],
     config: &Config,
-) -> Result<Vec<u32>, AllocError>
-    ensures { IfOk result (λ all. all.items ≡ text_symbols rules.now config.now) }
-{
+) -> Result<Vec<u32>, AllocError> {
     let mut all = Vec::new(alloc);
     put_rules(rules, &mut all)?;
     put_config(config, &mut all)?;

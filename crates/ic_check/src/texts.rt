@@ -4,8 +4,8 @@ ghost use Rattle.std.specs.Prelude.{◌≡◌, ◌≢◌, ◌⊎◌, true, IfErr
 ghost use Rattle.ic_text.specs.SystemText.{ReadsSystem};
 ghost use Rattle.ic_text.specs.Text.{Reads};
 ghost use Rattle.ic_check.specs.Faults.{FormHasFault, HasFault, TextHasFault, first_of, form_of};
-ghost use Rattle.ic_check.specs.Files.{ContentHasFault, Grows};
-ghost use Rattle.ic_check.specs.inner.Verdicts.{content_by};
+ghost use Rattle.ic_check.specs.Files.{Grows};
+ghost use Rattle.ic_check.specs.inner.Verdicts.{ContentHasFault, content_by};
 
 use crate::findings::Findings;
 use crate::lines::check_lines;

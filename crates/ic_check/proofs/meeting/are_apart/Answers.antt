@@ -1,7 +1,7 @@
 use Rattle.std.proofs.Common.{◌≡◌, ◌==◌, ◌++◌, ◌∙◌, List, ℕ, map, sym, ap, subst}
 use Rattle.std.specs.List.{flat_map, list_all}
 use Rattle.ic_term.specs.Term.{pair}
-use Rattle.ic_check.specs.Meeting.{pair_sides}
+use Rattle.ic_check.specs.Warnings.{pair_sides}
 use Rattle.ic_check.specs.inner.Tallies.{IsTally, tallied}
 use Rattle.ic_check.proofs.Idle.{apart_found}
 use Rattle.ic_check.proofs.meeting.are_apart.Goals as goal

@@ -1,7 +1,7 @@
 use Rattle.std.proofs.Common.{refl, map}
 use Rattle.std.specs.List.{flat_map}
 use Rattle.ic_term.specs.Term.{pair}
-use Rattle.ic_check.specs.Meeting.{pair_sides}
+use Rattle.ic_check.specs.Warnings.{pair_sides}
 use Rattle.ic_check.proofs.Listing.{next}
 use Rattle.ic_check.proofs.meeting.put_all_sides.Goals as goal
 

@@ -1,7 +1,7 @@
 use Rattle.std.proofs.Common.{map, refl}
 use Rattle.ic_term.specs.Tree.{trees_of}
 use Rattle.ic_term.specs.Term.{tree}
-use Rattle.ic_check.specs.Symbols.{symbols, symbols_of}
+use Rattle.ic_confluence.specs.Agents.{symbols, symbols_of}
 use Rattle.ic_check.proofs.Listing.{agent_begun, next}
 use Rattle.ic_check.proofs.symbols.+put.Goals as goal
 

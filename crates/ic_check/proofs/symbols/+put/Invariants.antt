@@ -1,7 +1,7 @@
 use Rattle.std.proofs.Common.{◌≡◌, ◌++◌, drop, map}
 use Rattle.ic_term.specs.Tree.{trees_of}
 use Rattle.ic_term.specs.Term.{tree, cell_tree}
-use Rattle.ic_check.specs.Symbols.{symbols, symbols_of}
+use Rattle.ic_confluence.specs.Agents.{symbols, symbols_of}
 use Rattle.ic_check.proofs.symbols.+put.Given as goal
 
 -- what is appended so far and the symbols of what is left are those of the whole

@@ -1,7 +1,7 @@
 use Rattle.std.proofs.Common.{refl, map}
 use Rattle.std.specs.List.{flat_map}
 use Rattle.ic_term.specs.Term.{tree}
-use Rattle.ic_check.specs.Symbols.{symbols}
+use Rattle.ic_confluence.specs.Agents.{symbols}
 use Rattle.ic_check.proofs.Listing.{next}
 use Rattle.ic_check.proofs.symbols.put_terms.Goals as goal
 

@@ -1,5 +1,5 @@
 use Rattle.std.proofs.Common.{◌≡◌, drop}
-use Rattle.ic_check.specs.Meeting.{has_use}
+use Rattle.ic_check.specs.Warnings.{has_use}
 use Rattle.ic_check.specs.inner.Growing.{holds}
 use Rattle.ic_check.proofs.warnings.has_use.Given as goal
 
