@@ -1,4 +1,5 @@
 pub mod CallLemmas
+pub mod GroupLemmas
 pub mod PartLemmas
 pub mod RoundLemmas
 pub mod ServedLemmas
