@@ -1,12 +1,13 @@
 """`batch`: the jobs of a file of lines come to their ends, whatever stops came before."""
 
+import re
 import signal
 import subprocess
 import time
 
 from checked import checked
 from known import ADD, LOOP, STILL, TWO, WAVES, WIDE, Job, fetched
-from program import PROGRAM, Server, Trial, as_lines, heeds_signals, run, said_of
+from program import PATIENCE, PROGRAM, Server, Trial, as_lines, heeds_signals, run, said_of
 
 SYSTEMS = (TWO, STILL, LOOP, WIDE, WAVES)
 
@@ -189,6 +190,18 @@ class Batch(Trial):
         line = end_of(name, system, min(most, budget or most))
         is_spent = budget and budget <= most and f"{name} running {budget} " in line
         return line.replace(" running ", " spent ", 1) if is_spent else line
+
+    def test_jobs_have_their_rounds_in_turn_and_these_are_kept_meanwhile(self):
+        """A look at the disk of a batch that goes on finds rounds of each job, as many, or one more of those before."""
+        command = self.words([submitted(it, LOOP) for it in ("one", "two", "three")], "--rounds", 10**9, "--every", 1)
+        pipes = {"stdin": subprocess.DEVNULL, "stdout": subprocess.PIPE, "stderr": subprocess.PIPE}
+        with subprocess.Popen([PROGRAM, *map(str, command)], **pipes) as started:
+            found, end = [], time.monotonic() + PATIENCE
+            while (len(found) < 3 or found[0] < 5) and time.monotonic() < end:
+                found = [int(it) for it in re.findall(rb": running, rounds (\d+)", run("inspect", "--disk", self.path).out)]
+            started.kill()
+        self.equals(said_of(command), f"whether each of three jobs has rounds, as {found}", True, len(found) == 3 and found[0] >= 5)
+        self.equals(said_of(command), f"whether they were made in turn, as {found}", True, found[2] <= found[1] <= found[0] <= found[2] + 1)
 
     def test_stops_at_drawn_moments_change_nothing(self):
         """Stopped again and again and called anew, it prints what one call prints, and a stopped one a front of that at most."""
