@@ -387,6 +387,30 @@ class Ends(Listens):
                 self.ends_well(listening, sign)
                 self.equals("the socket", "whether it is there", False, os.path.exists(listening.path))
 
+    def connects(self, path):
+        """Whether a process of another user, whose group is 65534, may connect."""
+        child = os.fork()
+        if not child:
+            with contextlib.suppress(OSError), socket.socket(socket.AF_UNIX) as there:
+                os.setgroups([])
+                os.setgid(65534)
+                os.setuid(65534)
+                there.connect(str(path))
+                os._exit(0)
+            os._exit(1)
+        return os.waitpid(child, 0)[1] == 0
+
+    def test_members_of_a_group_may_connect_once_the_socket_is_theirs_too(self):
+        if os.geteuid():
+            self.skipTest("only root can be another user")
+        os.chmod(self.room, 0o711)
+        with self.listening() as listening:
+            self.equals("another user", "whether it may connect", False, self.connects(listening.path))
+            os.chown(listening.path, -1, 65534)
+            os.chmod(listening.path, 0o660)
+            self.equals("a member of the group", "whether it may connect", True, self.connects(listening.path))
+            self.ends_well(listening)
+
     def test_shutdown_answers_what_is_due_and_ends(self):
         with self.listening() as listening, listening.client() as one, listening.client() as other:
             self.answers(other, f"submit loop {LOOP.text}", "accepted")
@@ -459,6 +483,12 @@ class Sends(Listens):
             self.ended(self.send(given=b""), b"")
             lines = b"fetch two\n" * 5_000
             self.ended(self.send(given=lines), b"two done 2 <S(S(Z))|>\n" * 5_000)
+
+    def test_at_a_line_that_is_answered_by_bad_it_is_told_what_tells_more(self):
+        told = "icserve-send: a line was answered `bad`: `icserve check -` tells what is wrong in such lines\n"
+        with self.listening():
+            self.ended(self.send("lst", "run 2000", "list"), ["bad syntax", "bad limit", "jobs"], told)
+            self.ended(self.send("submit bad {} <|>", "fetch bad"), ["accepted", "bad done 0 <|>"])
 
     def test_a_missing_answer_is_told(self):
         with self.listening():
