@@ -7,6 +7,7 @@ import importlib
 import io
 import json
 import os
+import shutil
 import signal
 import subprocess
 import sys
@@ -17,6 +18,10 @@ from program import IN_MEMORY, PATIENCE, PROGRAM, TOP, Trial, run
 from test_listen import Listening
 
 PACKAGE = TOP / "python/icserve"
+
+# The notebook, and what it says.
+NOTEBOOK = TOP / "examples/tour.ipynb"
+SAID = ("<S(S(S(S(Z))))|>", "no rule for Ad><Z", "Row(round=3, pairs=1, nodes=5", "(3, 3)", "the server was killed", "state='done', rounds=3")
 
 
 class Axes:
@@ -165,15 +170,30 @@ class Installed(Package):
     seconds = 8
 
     def test_the_cells_of_the_notebook_run(self):
-        notebook = json.loads((TOP / "examples/tour.ipynb").read_text())
+        notebook = json.loads(NOTEBOOK.read_text())
         names, said = {}, io.StringIO()
         with contextlib.redirect_stdout(said):
             for cell in notebook["cells"]:
                 if cell["cell_type"] == "code":
                     exec("".join(cell["source"]), names)
         names["room"].cleanup()
-        for part in ("<S(S(S(S(Z))))|>", "no rule for Ad><Z", "Row(round=3, pairs=1, nodes=5", "the server was killed", "state='done', rounds=3"):
+        for part in SAID:
             self.equals("the notebook", f"whether it says {part}", True, part in said.getvalue())
+
+    def test_nbconvert_runs_the_notebook(self):
+        """That of Debian's packages jupyter-nbconvert and python3-ipykernel."""
+        python = shutil.which("python3", path="/usr/bin:/bin")
+        path = os.pathsep.join([str(TOP / "python"), *filter(None, [os.environ.get("PYTHONPATH")])])
+        env = {**os.environ, "PYTHONPATH": path, "HOME": str(self.room), "IPYTHONDIR": str(self.room)}
+        if not python or subprocess.run([python, "-c", "import nbconvert, ipykernel"], env=env, stderr=subprocess.DEVNULL).returncode:
+            self.skipTest("nbconvert and ipykernel aren't there")
+        command = [python, "-m", "nbconvert", "--to", "notebook", "--execute", "--stdout", NOTEBOOK]
+        ran = subprocess.run([str(it) for it in command], env=env, cwd=self.room, stdout=subprocess.PIPE, stderr=subprocess.PIPE, timeout=PATIENCE)
+        self.equals(command, f"the status; it said {ran.stderr}", 0, ran.returncode)
+        outputs = [it for cell in json.loads(ran.stdout)["cells"] for it in cell.get("outputs", [])]
+        said = "".join("".join(it.get("text") or it.get("data", {}).get("text/plain", "")) for it in outputs)
+        for part in SAID:
+            self.equals(command, f"whether the notebook says {part}", True, part in said)
 
     def test_pip_installs_it_without_a_network(self):
         pip = [sys.executable, "-m", "pip"]
