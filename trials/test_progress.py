@@ -1,8 +1,11 @@
 """The line of progress: what a terminal is shown on standard error of long work, and that nothing else is."""
 
+import fcntl
 import os
 import re
+import struct
 import subprocess
+import termios
 import threading
 import time
 import tty
@@ -11,9 +14,10 @@ import unittest
 from known import LOOP, STILL, name_text
 from program import IN_MEMORY, PROGRAM, Trial, as_lines, run, said_of
 
-# A line as the program writes it: to the begin of the terminal's line, the text, and what erases the rest.
-LINE = re.compile(rb"\revents (\d+)(?:, rounds a second (\d+), jobs running (\d+))?\x1b\[K")
-OF_A_NET = re.compile(rb"\rinteractions (\d+), a second (\d+), nodes (\d+)\x1b\[K")
+# A line as the program writes it: to the begin of the terminal's line, the text, which doesn't go on in the next row, and what
+# erases the rest.
+LINE = re.compile(rb"\r\x1b\[\?7levents (\d+)(?:, rounds a second (\d+), jobs running (\d+))?\x1b\[K\x1b\[\?7h")
+OF_A_NET = re.compile(rb"\r\x1b\[\?7linteractions (\d+), a second (\d+), nodes (\d+)\x1b\[K\x1b\[\?7h")
 WIPED = b"\r\x1b[K"
 
 # A thousand pairs that never end, so that many rounds take a while on any machine.
@@ -25,12 +29,16 @@ ANSWERS = ["accepted", *["ran 1000"] * 6]
 class Terminal:
     """A terminal to which a program writes, and which a thread reads until no program has it open."""
 
+    def __init__(self, columns=80):
+        self.columns = columns
+
     def __enter__(self):
         try:
             self.ours, self.theirs = os.openpty()
         except OSError as fault:
             raise unittest.SkipTest(f"no terminal can be had here: {fault}") from fault
         tty.setraw(self.theirs)
+        fcntl.ioctl(self.theirs, termios.TIOCSWINSZ, struct.pack("HHHH", 24, self.columns, 0, 0))
         self.came = bytearray()
         self.reader = threading.Thread(target=self.read)
         self.reader.start()
@@ -50,6 +58,27 @@ class Terminal:
         os.close(self.ours)
 
 
+def rows_of(shown, columns):
+    """The rows of a terminal of so many columns, after each sequence that it was sent."""
+    rows, at, wraps = [""], 0, True
+    for it in re.findall(r"\x1b\[\??\d*\w|.|\n", shown.decode()):
+        if it in ("\x1b[?7l", "\x1b[?7h"):
+            wraps = it.endswith("h")
+        elif it == "\x1b[K":
+            rows[-1] = rows[-1][:at]
+        elif it == "\r":
+            at = 0
+        elif it == "\n" or (at == columns and wraps):
+            rows.append("" if it == "\n" else it)
+            at = len(rows[-1])
+        else:
+            at = min(at, columns - 1)
+            rows[-1] = rows[-1][:at] + it + rows[-1][at + 1 :]
+            at += 1
+        at = min(at, columns if wraps else columns - 1)
+        yield list(rows)
+
+
 class Progress(Trial):
     seconds = 15
     rooms = IN_MEMORY
@@ -58,12 +87,12 @@ class Progress(Trial):
         super().setUp()
         self.jobs = self.disk()
 
-    def shows(self, words, given=b"", out=True, err=True):
+    def shows(self, words, given=b"", out=True, err=True, columns=80):
         """Runs the program with terminals as its standard output or error: its status, what came on each, and how many
         seconds it took."""
         command, given = [PROGRAM, *map(str, words)], as_lines(given)
         self.command = said_of(command, given)
-        with Terminal() as shown:
+        with Terminal(columns) as shown:
             begun = time.monotonic()
             pipes = {"stdout": shown.theirs if out else subprocess.PIPE, "stderr": shown.theirs if err else subprocess.PIPE}
             ran = run(*words, given=given, **pipes)
@@ -145,6 +174,16 @@ class Progress(Trial):
             self.equals(self.command, f"a line came: {lines}", True, len(lines) > 0)
             is_told = all(made % 4_096 == 0 and pace > 0 and nodes < 10 for made, pace, nodes in lines)
             self.equals(self.command, f"pieces of a run, and few nodes: {lines}", True, is_told)
+
+    def test_a_line_stays_in_one_row_of_a_terminal_of_40_columns(self):
+        for words, given in ((["reduce", "--steps", 10_000_000], LOOP.text), (["serve", "--disk", self.jobs], LONG)):
+            _, _, _, shown, _ = self.shows(words, given, out=False, columns=40)
+            front = shown[: shown.rindex(WIPED) + len(WIPED)]
+            is_long = any(len(it) > 40 for it in re.findall(rb"7l([^\x1b]*)", front))
+            self.equals(self.command, f"whether a line is too long for a row: {front}", True, is_long)
+            seen = list(rows_of(front, 40))
+            self.equals(self.command, f"the most rows of {front}", 1, max(map(len, seen)))
+            self.equals(self.command, "what stands there at last", [""], seen[-1])
 
     def test_a_net_that_is_kept_shows_the_interactions_of_all_pieces(self):
         kept = self.room / "net.keep"

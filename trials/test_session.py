@@ -220,7 +220,7 @@ class Session(Trial):
         lines = [f"submit loop {LOOP.text}", *["run 1000"] * 3]
         command, out, shown = self.typed(lines)
         self.agrees(command, "standard output", as_lines(["accepted", *["ran 1000"] * 3]), out)
-        lines = re.sub(rb"\r[^\r\x1b]*\x1b\[K", b"", shown)
+        lines = re.sub(rb"\r(?:\x1b\[\?7l[^\r\x1b]*)?\x1b\[K(?:\x1b\[\?7h)?", b"", shown)
         self.agrees(command, "the terminal without lines of progress", b"> " * 5 + b"\n", lines)
 
     def test_an_error_that_cant_be_written_ends_nothing(self):

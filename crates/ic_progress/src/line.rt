@@ -1,4 +1,5 @@
-//! The line of progress, as a terminal is sent it: to the begin of its line, the text, and what erases the rest.
+//! The line of progress, as a terminal is sent it: to the begin of its line, the text, and what erases the rest. It stays in
+//! one row, however narrow the terminal is: what has no room there isn't shown.
 
 use std::alloc::{AllocError, Global};
 
@@ -14,6 +15,12 @@ pub(crate) fn a_second(count: u64, millis: u64) -> u64 {
     count.saturating_mul(1_000) / millis.max(1)
 }
 
+/// To the begin of the line; from here on a text doesn't go on in the next row.
+const BEGIN: &str = "\r\x1b[?7l";
+
+/// Erases the rest of the line. From here on a text goes on in the next row again.
+const END: &str = "\x1b[K\x1b[?7h";
+
 /// The line of so many events and their pace, in place of the one before.
 pub(crate) fn progress_line(
     alloc: Global,
@@ -24,10 +31,10 @@ pub(crate) fn progress_line(
         Some(pace) => {
             let (rounds, jobs) = (pace.rounds_a_second, pace.jobs_running);
             format!(in alloc;
-                "\revents {events}, rounds a second {rounds}, jobs running {jobs}\x1b[K"
+                "{BEGIN}events {events}, rounds a second {rounds}, jobs running {jobs}{END}"
             )
         }
-        None => format!(in alloc; "\revents {events}\x1b[K"),
+        None => format!(in alloc; "{BEGIN}events {events}{END}"),
     }
 }
 
@@ -38,5 +45,5 @@ pub(crate) fn reducing_line(
     a_second: u64,
     nodes: u64,
 ) -> Result<String, AllocError> {
-    format!(in alloc; "\rinteractions {interactions}, a second {a_second}, nodes {nodes}\x1b[K")
+    format!(in alloc; "{BEGIN}interactions {interactions}, a second {a_second}, nodes {nodes}{END}")
 }
