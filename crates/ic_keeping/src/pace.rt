@@ -29,6 +29,9 @@ const FIRST: u64 = 1 << 22;
 /// How many interactions a piece makes at most.
 const MOST: u64 = 1 << 60;
 
+/// How many times as many as the one before it.
+const GROWTH: u64 = 64;
+
 impl Pace {
     /// A pace of pieces that go on for so many milliseconds.
     pub fn new(every: u64) -> Pace
@@ -42,14 +45,14 @@ impl Pace {
     }
 
     /// The pace after a piece that made interactions for so many milliseconds: as many as take the time of a piece, if the next ones
-    /// take as long as those. There are at most sixteen times as many, and a quarter at least.
+    /// take as long as those. There are at most 64 times as many, and a quarter at least.
     pub fn after(self, took: u64) -> Pace
         ensures every { result.every ≡ self.every }
-        ensures piece { result.piece ≡ max (2 ^ 22) (min (min (self.piece * 16) (2 ^ 60))
+        ensures piece { result.piece ≡ max (2 ^ 22) (min (min (self.piece * 64) (2 ^ 60))
             (max (self.piece / 4) (self.piece / max took 1 * self.every))) }
     {
         let least = self.piece / 4;
-        let most = self.piece.saturating_mul(16);
+        let most = self.piece.saturating_mul(GROWTH);
         let even = (self.piece / took.max(1)).saturating_mul(self.every);
         let piece = even.max(least).min(most).min(MOST).max(FIRST);
         Pace {
