@@ -1,9 +1,10 @@
 -- What was kept on the way of a reduction, and what a state leads to.
-use Rattle.std.proofs.Common.{◌≡◌, ◌⊎◌, ⊎_elim, ◌∙◌, ℕ, ◌≤◌, Bool, true, List, Ok, Err, refl, sym, ap, subst, arith}
+use Rattle.std.proofs.Common.{◌≡◌, ◌⊎◌, ⊎_elim, ◌∙◌, ℕ, ◌≤◌, Bool, true, List, Ok, Err, length, refl, sym, ap, subst, arith}
 use Rattle.ic_frames.specs.declared.faults.KeepFault.{KeepFault}
 use Rattle.ic_kept.specs.declared.keeper.Keeper.{Keeper}
 use Rattle.ic_kept.specs.Course.{IsKeep, Course, Way, no_keep, one_more, all_answered, last_refused, Leads, stays, goes_on}
 use Rattle.ic_rules.specs.System.{SystemParts}
+use Rattle.ic_term.specs.declared.limits.TheConstants.{MAX_WIDE_NODES}
 use Rattle.ic_state.specs.State.{Kept, IsKept, state_bytes}
 use Rattle.ic_keeping.specs.Way.{GoesFurther, IsAsFar, IsFormFrom, IsKeptAfter, IsReachedFrom, IsStateOf}
 
@@ -45,8 +46,8 @@ module _ {D : Type 0} (keeps_model : D → Bool) (image : D → List ℕ → Typ
   }
 
   comes : (k new : Kept) (ended : Bool) (keeper : Keeper D) → (has : HasKept k ended keeper) → IsReachedFrom s has.kept new → IsKept new → GoesFurther k.interactions ended new
-      → IsKeptAfter s (state_bytes has.kept) (state_bytes new)
-  comes k new ended keeper has onward is_kept further = record {
+      → length new.words ≤ MAX_WIDE_NODES → IsKeptAfter s (state_bytes has.kept) (state_bytes new)
+  comes k new ended keeper has onward is_kept further few = record {
     before = has.kept;
     after = new;
     old_is = refl;
@@ -55,17 +56,19 @@ module _ {D : Type 0} (keeps_model : D → Bool) (image : D → List ℕ → Typ
     is_kept = is_kept;
     from = onward;
     further = subst (λ (n : ℕ). GoesFurther n has.kept.ended new) (sym has.as_far.interactions) (subst (λ (b : Bool). GoesFurther k.interactions b new) (sym has.has_ended) further);
+    few = few;
   }
 
   keeps_more : (k new : Kept) (ended now_ended : Bool) (keeper now : Keeper D) → (has : HasKept k ended keeper) → IsReachedFrom s has.kept new → IsReachedFrom s new new → IsKept new
-      → GoesFurther k.interactions ended new → IsKeep keeps_model image clock left (state_bytes new) (Ok tt) keeper now → now_ended ≡ new.ended → HasKept new now_ended now
-  keeps_more k new ended now_ended keeper now has onward itself is_kept further keep told = record {
+      → GoesFurther k.interactions ended new → length new.words ≤ MAX_WIDE_NODES → IsKeep keeps_model image clock left (state_bytes new) (Ok tt) keeper now → now_ended ≡ new.ended
+      → HasKept new now_ended now
+  keeps_more k new ended now_ended keeper now has onward itself is_kept further few keep told = record {
     kept = new;
     is_kept = is_kept;
     onward = itself;
     as_far = record { interactions = refl; by_rule = refl; ended = λ e. e };
     has_ended = sym told;
-    course = one_more (state_bytes first) (state_bytes has.kept) (state_bytes new) start keeper now has.course (comes k new ended keeper has onward is_kept further) keep;
+    course = one_more (state_bytes first) (state_bytes has.kept) (state_bytes new) start keeper now has.course (comes k new ended keeper has onward is_kept further few) keep;
   }
 
   keeps_still : (k new : Kept) (ended now_ended : Bool) (keeper now : Keeper D) → (has : HasKept k ended keeper) → IsReachedFrom s has.kept new → k.interactions ≡ new.interactions → new.by_rule ≡ k.by_rule
@@ -82,10 +85,10 @@ module _ {D : Type 0} (keeps_model : D → Bool) (image : D → List ℕ → Typ
   -- after a call that was answered
   pub keeps_on : (k new : Kept) (ended now_ended : Bool) (keeper now : Keeper D) → (has : HasKept k ended keeper) → IsReachedFrom s has.kept new → IsReachedFrom s new new
       → (k.interactions ≡ new.interactions → new.by_rule ≡ k.by_rule)
-      → (GoesFurther k.interactions ended new × IsKept new × IsKeep keeps_model image clock left (state_bytes new) (Ok tt) keeper now × (now_ended ≡ new.ended))
+      → (GoesFurther k.interactions ended new × IsKept new × (length new.words ≤ MAX_WIDE_NODES) × IsKeep keeps_model image clock left (state_bytes new) (Ok tt) keeper now × (now_ended ≡ new.ended))
       ⊎ ((k.interactions ≡ new.interactions) × (new.ended ≡ true → ended ≡ true) × (now_ended ≡ ended) × (now ≡ keeper)) → HasKept new now_ended now
   keeps_on k new ended now_ended keeper now has onward itself counts done = ⊎_elim
-      (λ more. keeps_more k new ended now_ended keeper now has onward itself more.1 more.0 more.2 more.3)
+      (λ more. keeps_more k new ended now_ended keeper now has onward itself more.1 more.0 more.2 more.3 more.4)
       (λ still. keeps_still k new ended now_ended keeper now has onward still.0 (counts still.0) still.1 still.2 still.3)
       done
 
@@ -94,9 +97,9 @@ module _ {D : Type 0} (keeps_model : D → Bool) (image : D → List ℕ → Typ
 
   -- and after one that was refused
   pub way_refused : (k new : Kept) (ended : Bool) (keeper now : Keeper D) → (has : HasKept k ended keeper) → IsReachedFrom s has.kept new
-      → (now ≡ keeper) ⊎ ((fault : KeepFault) × GoesFurther k.interactions ended new × IsKept new × IsKeep keeps_model image clock left (state_bytes new) (Err fault) keeper now)
+      → (now ≡ keeper) ⊎ ((fault : KeepFault) × GoesFurther k.interactions ended new × IsKept new × (length new.words ≤ MAX_WIDE_NODES) × IsKeep keeps_model image clock left (state_bytes new) (Err fault) keeper now)
       → Way keeps_model image clock left (IsKeptAfter s) (state_bytes first) start now
   way_refused k new ended keeper now has onward done = ⊎_elim
       (λ same. subst (λ (n : Keeper D). Way keeps_model image clock left (IsKeptAfter s) (state_bytes first) start n) (sym same) (way_of k ended keeper has))
-      (λ refused. last_refused (state_bytes first) (state_bytes has.kept) (state_bytes new) start keeper now refused.0 has.course (comes k new ended keeper has onward refused.2 refused.1) refused.3)
+      (λ refused. last_refused (state_bytes first) (state_bytes has.kept) (state_bytes new) start keeper now refused.0 has.course (comes k new ended keeper has onward refused.2 refused.1 refused.3) refused.4)
       done

@@ -1,5 +1,5 @@
 -- One life of a reduction that is kept, what it tells, and why it stops (this project's choice).
-use Rattle.std.specs.Prelude.{◌≡◌, ◌≢◌, ◌⊎◌, ℕ, ◌-◌, ◌^◌, Bool, true, false, List, [], IsNone, if◌then◌else◌}
+use Rattle.std.specs.Prelude.{◌≡◌, ◌≢◌, ◌⊎◌, ℕ, ◌-◌, ◌^◌, Bool, true, false, List, [], IsNone, IsTrue, if◌then◌else◌}
 use Rattle.std.specs.Arc.{arc_value}
 use Rattle.std.specs.Option.{option_map}
 use Rattle.ic_streams.specs.Stuck.{stuck_text}
@@ -82,6 +82,8 @@ module _ {D : Type 0} (keeps_model : D → Bool) (content : D → List ℕ)
   pub record IsFirstLife (s : SystemParts) (begun : Kept) (n : Keeper D) : Type 0 where
     pub first : D
     pub second : D
+    pub keeps : IsTrue (keeps_model first)
+    pub keeps_too : IsTrue (keeps_model second)
     pub newest : Within (image first) (IsNewest 1 (state_bytes begun))
     pub shut : Within (image second) IsShut
     pub keeper : Keeper D

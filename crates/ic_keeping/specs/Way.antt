@@ -127,8 +127,8 @@ GoesFurther interactions ended k =
     (interactions < k.interactions)
     ⊎ ((interactions ≡ k.interactions) × (ended ≡ false) × (k.ended ≡ true))
 
--- One state was kept, and this state of the reduction is kept after it. It is reached from there, and goes further. These are
--- their bytes.
+-- One state was kept, and this state of the reduction is kept after it. It is reached from there, and goes further. It has no
+-- more names and agents than are read, so that no later life is refused it for its size. These are their bytes.
 pub record IsKeptAfter (s : SystemParts) (old new : List ℕ) : Type 0 where
   pub before : Kept
   pub after : Kept
@@ -138,6 +138,7 @@ pub record IsKeptAfter (s : SystemParts) (old new : List ℕ) : Type 0 where
   pub is_kept : IsKept after
   pub from : IsReachedFrom s before after
   pub further : GoesFurther before.interactions before.ended after
+  pub few : length after.words ≤ MAX_WIDE_NODES
 
 -- What is kept goes as far as this state: it has as many interactions, of each rule too, and has ended where this has.
 pub record IsAsFar (kept k : Kept) : Type 0 where

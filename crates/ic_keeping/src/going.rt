@@ -33,7 +33,7 @@ use ic_in_place::{Asked, Bounds, End, Reduced, Watch, circle_text, is_written, s
 use ic_kept::Keeper;
 use ic_rules::RuleSet;
 use ic_state::State;
-use ic_term::Symbols;
+use ic_term::{MAX_WIDE_NODES, Symbols};
 use ic_text::{Limits, TextFault, find_wide_system, put_words};
 use ic_workers::{Policy, reduce_by_workers};
 use std::alloc::Global;
@@ -303,6 +303,7 @@ fn keep_further<D: Disk>(
     requires { interactions ≤ state.now.interactions }
     ensures kept { IfOk result (λ now_ended.
         (GoesFurther interactions ended (kept_by state.now) × IsKept (kept_by state.now)
+        × (length state.now.words.items ≤ MAX_WIDE_NODES)
         × IsKeep D.keeps D.image D.clock D.left (state_bytes (kept_by state.now)) (Ok tt)
         keeper.old keeper.new × (now_ended ≡ state.now.ended))
         ⊎ ((interactions ≡ state.now.interactions) × (state.now.ended ≡ true → ended ≡ true)
@@ -311,11 +312,13 @@ fn keep_further<D: Disk>(
         ⊎ ((is_broken keeper.old ≡ false) × (is_broken keeper.new ≡ false))) }
     ensures crash { OnErr result ((keeper.new ≡ keeper.old) ⊎ ((fault : KeepFault)
         × GoesFurther interactions ended (kept_by state.now) × IsKept (kept_by state.now)
+        × (length state.now.words.items ≤ MAX_WIDE_NODES)
         × IsKeep D.keeps D.image D.clock D.left (state_bytes (kept_by state.now)) (Err fault)
         keeper.old keeper.new)) }
     ensures refused { IfErr result (λ fault. StopsARun fault) }
     ensures limit { IfErr result (λ fault. fault ≡ KeepingFault.Limit
-        → ¬ AllByRecursion IsKeptWord state.now.words.items) }
+        → (MAX_WIDE_NODES < length state.now.words.items)
+        ⊎ ¬ AllByRecursion IsKeptWord state.now.words.items) }
     ensures failed { IfErr result (λ fault. (cause : KeepFault)
         → fault ≡ KeepingFault.Keep cause → KeepFails cause keeper.old keeper.new) }
 {
@@ -342,7 +345,7 @@ fn goes_further(state: &State, interactions: u64, ended: bool) -> bool
     false
 }
 
-/// Keeps a state.
+/// Keeps a state, unless it has more names and agents than are read: each life that found it would be refused it.
 fn keep_state<D: Disk>(
     alloc: Global,
     state: &State,
@@ -351,17 +354,22 @@ fn keep_state<D: Disk>(
     ensures keeps { OnOk result (IsKeep D.keeps D.image D.clock D.left
         (state_bytes (kept_by state.now)) (Ok tt) keeper.old keeper.new) }
     ensures sound { OnOk result (IsKept (kept_by state.now)) }
+    ensures few { OnOk result (length state.now.words.items ≤ MAX_WIDE_NODES) }
     ensures ready { OnOk result ((is_broken keeper.old ≡ false) × (is_broken keeper.new ≡ false)) }
     ensures crash { OnErr result ((keeper.new ≡ keeper.old) ⊎ ((fault : KeepFault)
-        × IsKept (kept_by state.now)
+        × IsKept (kept_by state.now) × (length state.now.words.items ≤ MAX_WIDE_NODES)
         × IsKeep D.keeps D.image D.clock D.left (state_bytes (kept_by state.now)) (Err fault)
         keeper.old keeper.new)) }
     ensures refused { IfErr result (λ fault. StopsARun fault) }
     ensures limit { IfErr result (λ fault. fault ≡ KeepingFault.Limit
-        → ¬ AllByRecursion IsKeptWord state.now.words.items) }
+        → (MAX_WIDE_NODES < length state.now.words.items)
+        ⊎ ¬ AllByRecursion IsKeptWord state.now.words.items) }
     ensures failed { IfErr result (λ fault. (cause : KeepFault)
         → fault ≡ KeepingFault.Keep cause → KeepFails cause keeper.old keeper.new) }
 {
+    if state.words.len() as u64 > MAX_WIDE_NODES {
+        return Err(KeepingFault::Limit);
+    }
     let bytes = bytes_of(alloc, state)?;
     match keeper.keep(&bytes) {
         Ok(()) => Ok(()),

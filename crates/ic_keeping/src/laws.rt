@@ -41,7 +41,7 @@ ghost use Rattle.ic_text.specs.declared.limits.Limits.TheVariants.{Wide};
 ghost use Rattle.ic_text.specs.declared.limits.TheConstants.{MAX_NAME};
 ghost use Rattle.ic_keeping.specs.declared.fault.KeepingFault.TheVariants as keeping;
 ghost use Rattle.ic_keeping.specs.declared.going.Ended.{Ended};
-ghost use Rattle.ic_keeping.specs.Life.{HasLived, IsLife, IsTold, KeepFails, StopsARun, StopsAnOpening};
+ghost use Rattle.ic_keeping.specs.Life.{HasLived, IsFirstLife, IsLife, IsTold, KeepFails, StopsABegin, StopsARun, StopsAnOpening};
 ghost use Rattle.ic_keeping.specs.Way.{AreSums, ComesPastLimits, IsAnswer, IsAsFar, IsBegun, IsFormFrom, IsFormOf, IsKeptAfter, IsOnWay, IsReachedFrom, IsStateOf};
 
 use ic_disk::Disk;
@@ -163,6 +163,33 @@ pub fn lives_go_on<D: Disk>(first: &D, second: &D)
     ic_state::laws::each_state_has_its_own_bytes();
 }
 
+/// A first life is one of the lives of its reduction: what a stop at any moment of it leaves, after the first state was kept, is
+/// found after lives of the reduction, and so another life may follow.
+pub fn a_first_life_is_one_of_them<D: Disk>(first: &D, second: &D)
+    // Two files were begun so, and opened.
+    ensures begun { (s : SystemParts) (begun : Kept) (n : Keeper D)
+        → IsFirstLife D.keeps D.content D.image D.clock D.left s begun n
+        → (one other : D) × (k : Keeper D) × IsTrue (D.keeps one) × IsTrue (D.keeps other)
+        × Within (D.image one) (IsNewest 1 (state_bytes begun)) × Within (D.image other) IsShut
+        × IsLife D.keeps D.content D.image D.clock D.left s begun one other k n }
+    ensures stopped { (s : SystemParts) (begun : Kept) (last next : List ℕ) (n : Keeper D)
+        → (life : IsFirstLife D.keeps D.content D.image D.clock D.left s begun n)
+        → IsTrue (D.keeps first.now) → IsTrue (D.keeps second.now)
+        → ((one other : List ℕ) → D.image first.now one → D.image second.now other
+        → LeftOnWay D.keeps D.image D.clock D.left life.life.way last next one other)
+        → HasLived D.keeps D.content D.image D.clock D.left s begun
+        last next first.now second.now }
+    // At its end, also by a fault, its disks hold a state with no fewer interactions.
+    ensures again { (s : SystemParts) (begun : Kept) (n : Keeper D)
+        → IsFirstLife D.keeps D.content D.image D.clock D.left s begun n
+        → KeepsModel D.keeps n × HoldOne (IsFormFrom s begun.interactions)
+        (D.content (newest_of n)) (D.content (other_of n)) }
+{
+    let _ = first;
+    let _ = second;
+    ic_state::laws::each_state_has_its_own_bytes();
+}
+
 /// What a state of a reduction says: its text is read as the system, and its interactions lead there. One that has begun is
 /// the system's configuration, and of one that has ended no step is possible.
 pub fn what_a_kept_state_says()
@@ -222,7 +249,7 @@ pub fn what_is_past_a_limit()
 
 /// What is told at the end of a life: the rules of the system, the line that is asked for, and at a quiet end the first pair
 /// that is stuck. A run from a state stops for nothing that stands in its files, and of two files that hold a state an
-/// opening is refused by a failing call or for want of memory alone.
+/// opening is refused by a failing call or for want of memory alone. No reduction fails to begin for what two files keep.
 pub fn what_a_life_tells()
     ensures rules { (s : SystemParts) (asked : Asked) (ended : Ended) → IsTold s asked ended
         → arc_value ended.rules ≡ s.rules }
@@ -242,6 +269,9 @@ pub fn what_a_life_tells()
         × ((cause : KeepFault) → ¬ StopsAnOpening (keeping.Keep cause))
         × ((cause : OpenCause) → StopsAnOpening (keeping.Open cause)
         → (cause ≡ opening.Device) ⊎ (cause ≡ opening.Memory)) }
+    ensures begins { ¬ StopsABegin keeping.Unsound
+        × ((cause : OpenCause) → ¬ StopsABegin (keeping.Open cause))
+        × ((cause : KeepFault) → ¬ StopsABegin (keeping.Keep cause)) }
 {}
 
 /// What a keep that was refused says of its keeper: it was broken, its number is the last one, or it is broken only now.
@@ -275,12 +305,15 @@ pub fn a_keep_spares_the_newest_file<D: Disk>(keeper: &Keeper<D>)
 }
 
 /// A state that is kept after another one is reached from there. It has more interactions, or as many and has ended where the
-/// other hadn't. What is kept of a reduction is what is read back as one of its states.
+/// other hadn't, and no more names and agents than are read. What is kept of a reduction is what is read back as one of its
+/// states.
 pub fn kept_states_go_on()
     ensures after { (s : SystemParts) (k next : Kept) → IsKept k → IsKept next
         → IsKeptAfter s (state_bytes k) (state_bytes next)
         → IsReachedFrom s k next × ((k.interactions < next.interactions)
         ⊎ ((k.interactions ≡ next.interactions) × (k.ended ≡ false) × (next.ended ≡ true))) }
+    ensures few { (s : SystemParts) (k next : Kept) → IsKept k → IsKept next
+        → IsKeptAfter s (state_bytes k) (state_bytes next) → length next.words ≤ MAX_WIDE_NODES }
     ensures reached { (s : SystemParts) (k next : Kept) → IsReachedFrom s k next
         → IsStateOf s k × IsStateOf s next × (one : ℕ) × (other : ℕ) × (more : List ℕ)
         × Reaches s.rules.rules (configuration_of k.words k.terms one)

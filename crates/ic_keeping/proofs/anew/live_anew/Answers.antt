@@ -29,6 +29,8 @@ returns-in-Ok-go_on-clause-life g c s are is keeps keeps_too =
       record {
         first = c.begin.new.first;
         second = c.begin.new.second;
+        keeps = subst (λ (b : Bool). IsTrue b) (sym begun.keeps_first) keeps;
+        keeps_too = subst (λ (b : Bool). IsTrue b) (sym begun.keeps_second) keeps_too;
         newest = begun.newest keeps;
         shut = begun.shut keeps_too;
         keeper = c.made-keeper.result;
@@ -51,6 +53,8 @@ returns-in-Err-go_on-clause-stopped g c s are is keeps keeps_too =
       record {
         first = c.begin.new.first;
         second = c.begin.new.second;
+        keeps = subst (λ (b : Bool). IsTrue b) (sym begun.keeps_first) keeps;
+        keeps_too = subst (λ (b : Bool). IsTrue b) (sym begun.keeps_second) keeps_too;
         newest = begun.newest keeps;
         shut = begun.shut keeps_too;
         keeper = c.made-keeper.result;

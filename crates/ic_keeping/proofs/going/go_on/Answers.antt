@@ -199,7 +199,10 @@ returns-in_err-now_ended-clause-limit g c s are is =
     let e = err_from_is_err_and c.from_residual-in_err-now_ended.result c.from_residual-in_err-now_ended.ensures.1 in
     rw (e.1, e.2) (λ limit. ⊎_elim
     (λ many. past_state s first new (c.states_are_reached.ensures s first is) (inr together) many)
-    (λ few. absurd (c.in_err-now_ended.ensures.limit limit (c.in_ok-run.ensures.numbered few)))
+    (λ few. ⊎_elim
+    (λ many. past_state s first new (c.states_are_reached.ensures s first is) (inr together) many)
+    (λ unnumbered. absurd (unnumbered (c.in_ok-run.ensures.numbered few)))
+    (c.in_err-now_ended.ensures.limit limit))
     (cases_lt MAX_WIDE_NODES (length new.words)))
 
 pub returns-clause-limit : goal.returns-clause-limit

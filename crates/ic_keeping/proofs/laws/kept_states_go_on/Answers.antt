@@ -1,5 +1,6 @@
-use Rattle.std.proofs.Common.{◌≡◌, sym, subst}
+use Rattle.std.proofs.Common.{◌≡◌, ◌≤◌, length, sym, subst}
 use Rattle.ic_state.specs.State.{Kept}
+use Rattle.ic_term.specs.declared.limits.TheConstants.{MAX_WIDE_NODES}
 use Rattle.ic_keeping.specs.Way.{GoesFurther, IsReachedFrom}
 use Rattle.ic_keeping.proofs.laws.kept_states_go_on.Goals as goal
 
@@ -10,6 +11,10 @@ returns-clause-after c = λ s k next k_kept next_kept is.
       subst (λ (x : Kept). IsReachedFrom s x next) (sym one) (subst (λ (x : Kept). IsReachedFrom s is.before x) (sym other) is.from),
       subst (λ (x : Kept). GoesFurther x.interactions x.ended next) (sym one) (subst (λ (x : Kept). GoesFurther is.before.interactions is.before.ended x) (sym other) is.further),
     )
+
+pub returns-clause-few : goal.returns-clause-few
+returns-clause-few c = λ s k next k_kept next_kept is.
+    subst (λ (x : Kept). length x.words ≤ MAX_WIDE_NODES) (sym (c.each_state_has_its_own_bytes.ensures next is.after next_kept is.is_kept is.new_is)) is.few
 
 pub returns-clause-of : goal.returns-clause-of
 returns-clause-of c s least one other held =

@@ -1,7 +1,8 @@
 use Rattle.ic_frames.specs.declared.faults.OpenCause.{OpenCause}
 use Rattle.ic_frames.specs.declared.faults.OpenCause.TheVariants as opening
 use Rattle.ic_keeping.specs.declared.fault.KeepingFault.{KeepingFault}
-use Rattle.ic_keeping.specs.Life.{StopsAnOpening}
+use Rattle.ic_frames.specs.declared.faults.KeepFault.{KeepFault}
+use Rattle.ic_keeping.specs.Life.{StopsABegin, StopsAnOpening}
 use Rattle.ic_keeping.proofs.Refusing.{run_unopened, run_sound, run_begun, run_no_call}
 use Rattle.ic_keeping.specs.declared.fault.KeepingFault.TheVariants as keeping
 use Rattle.std.proofs.Common.{◌≡◌, ◌≢◌, ◌⊎◌, inl, inr, refl}
@@ -16,6 +17,12 @@ by_two : (cause : OpenCause) → StopsAnOpening (keeping.Open cause) → (cause 
 by_two cause (inl is) = inl (let same : cause ≡ opening.Device = cc in same)
 by_two cause (inr (inl is)) = inr (let same : cause ≡ opening.Memory = cc in same)
 by_two cause (inr (inr is)) = absurd (let never : keeping.Open cause ≡ keeping.Memory = is in cc)
+
+begins_by : (fault : KeepingFault) → ◌≢◌ fault keeping.NotEmpty → ◌≢◌ fault keeping.Device → ◌≢◌ fault keeping.Limit → ◌≢◌ fault keeping.Memory → StopsABegin fault → ⊥
+begins_by fault one other third last (inl is) = one is
+begins_by fault one other third last (inr (inl is)) = other is
+begins_by fault one other third last (inr (inr (inl is))) = third is
+begins_by fault one other third last (inr (inr (inr is))) = last is
 
 pub returns-clause-rules : goal.returns-clause-rules
 returns-clause-rules c = λ s asked ended is. is.rules
@@ -40,4 +47,11 @@ returns-clause-opens c = (
   by_none keeping.Device (λ same. cc) (λ same. cc) (λ same. cc),
   λ cause. by_none (keeping.Keep cause) (λ same. cc) (λ same. cc) (λ same. cc),
   by_two,
+)
+
+pub returns-clause-begins : goal.returns-clause-begins
+returns-clause-begins c = (
+  begins_by keeping.Unsound (λ same. cc) (λ same. cc) (λ same. cc) (λ same. cc),
+  λ cause. begins_by (keeping.Open cause) (λ same. cc) (λ same. cc) (λ same. cc) (λ same. cc),
+  λ cause. begins_by (keeping.Keep cause) (λ same. cc) (λ same. cc) (λ same. cc) (λ same. cc),
 )
