@@ -99,6 +99,20 @@ def turned(state):
     return state[:8] + b"".join(state[at : at + 8][::-1] for at in range(8, end, 8)) + state[end:]
 
 
+def state_of(content):
+    """The state in a file: its head with its counts, its words, and its text."""
+    state = content[HEAD : HEAD + struct.unpack(">Q", content[9:HEAD])[0]]
+    rules, words = struct.unpack(">2Q", state[32:48])
+    front, end = 56 + 8 * rules, 56 + 8 * (rules + words)
+    return state[:front], state[front:end], state[end:]
+
+
+def with_state(content, *parts):
+    """A file with such a state in the place of its own."""
+    state = b"".join(parts)
+    return content[:9] + struct.pack(">Q", len(state)) + state
+
+
 class Keep(Stops):
     seconds = 80
 
@@ -564,6 +578,26 @@ class Keep(Stops):
             ran = run("reduce", "--resume", self.file)
             told = (ran.status, ran.out, ran.err, self.contents() == put)
             self.equals(ran.command, f"the end of {content[:40]}", (3, b"", b"icserve: damaged\n", True), told)
+
+    def test_the_text_of_the_rules_is_kept_or_a_whole_one(self):
+        """The configuration that was read first isn't kept, where its text is long. States with the whole text, as older programs
+        keep them, go on as well, and so does either kind after the other."""
+        rules = "{ A(B(x),y)><B(A(x,y)) ;\nA(x,y)><C(x,y) }"
+        long = ",".join(f"Odd(q{it},D)=Even(Nil,q{it},Odd(D,Nil))" for it in range(1, 40))
+        few = f"{rules} <r,s|A(r,s)=B(C(t,t)),{long}>"
+        for text, front in ((few, f"{rules}<A("), (f"{{}}<{'S(' * 99}Z{')' * 99}|>", "{}<S(a),Z|>"), ("{}<|>", "{}<|>"), ("{A><B}<|>", "{A><B}<|>")):
+            whole = self.whole(text)
+            self.clear()
+            run("reduce", "--keep", self.file, "--steps", 1, "--quiet-answer", given=text)
+            kept = self.contents()
+            newest = max((0, 1), key=lambda it: seen(it, kept[it])[1])
+            numbers, words, rest = state_of(kept[newest])
+            self.equals(text, "the text that is kept", (True, True), (rest.startswith(front.encode()), len(rest) <= len(text)))
+            self.equals(text, "whether it has the configuration", False, len(text) > 99 and len(rest) > 99)
+            for content in (kept[newest], with_state(kept[newest], numbers, words, text.encode())):
+                self.put(content if it == newest else kept[it] for it in (0, 1))
+                self.agree(run("reduce", "--resume", self.file, *FIGURES), whole)
+                self.agree(run("reduce", "--resume", self.file, *FIGURES), whole)
 
     def test_counts_that_are_not_those_of_the_text_are_damage(self):
         """A count too many, one too few, and one above all interactions."""

@@ -34,7 +34,7 @@ use Rattle.ic_round.specs.Quiet.{IsQuiet}
 use Rattle.ic_state.specs.State.{Kept}
 use Rattle.ic_state.specs.Words.{IsKeptWord}
 use Rattle.ic_keeping.specs.inner.Pieces.{ComesTogether, IsWritten}
-use Rattle.ic_keeping.specs.Way.{AreSums, ComesPastLimits, EndsWithin, IsAnswer, IsOnWay, IsReachedFrom, IsSound, IsStateOf}
+use Rattle.ic_keeping.specs.Way.{AreRulesOf, AreSums, ComesPastLimits, EndsWithin, IsAnswer, IsOnWay, IsReachedFrom, IsSound, IsStateOf}
 use Rattle.ic_keeping.proofs.LowNames.{TellingLaws, low_words}
 use Rattle.ic_keeping.proofs.Quiet.{QuietLaws, quiet_too}
 
@@ -209,7 +209,10 @@ module _ (naming : NamingLaws) (laws : ReachingLaws) (s t : SystemParts) (sound 
     reached_from quiet_laws telling later ended whole n counted = record {
       was = from.was;
       is = record {
-        reads = subst (λ (text : List ℕ). ReadsSystemWithin Wide text (Ok s)) (sym same_text) is.reads;
+        sound = sound;
+        read = is.read;
+        reads = subst (λ (text : List ℕ). ReadsSystemWithin Wide text (Ok is.read)) (sym same_text) is.reads;
+        rules = is.rules;
         next = new_next;
         way = record {
           fired = fired;
@@ -385,6 +388,10 @@ itself_reached itself names s k is = record {
   text = refl;
   millis = omega arith;
 }
+
+-- rules that are those of each reading of its text are those of its system
+pub are_rules : (s : SystemParts) (k : Kept) (rules : Rules) → IsStateOf s k → ((read : SystemParts) → ReadsSystemWithin Wide k.text (Ok read) → rules ≡ read.rules) → AreRulesOf s rules
+are_rules s k rules is told = record { same = told is.read is.reads ∙ is.rules; sound = is.sound }
 
 -- A text from which no interaction was made.
 pub begun_on_way : (s : SystemParts) (by : List ℕ) → ((rs : List Rule) (c : Configuration) → HasNames c → Reaches rs c c []) → HasNames s.config → length by ≡ length s.rules.rules

@@ -37,12 +37,21 @@ pub record IsOnWay (s : SystemParts) (c : Configuration) (interactions : ℕ) (b
   pub counted : interactions ≡ length fired
   pub counts : AreCounts (length s.rules.rules) fired by_rule
 
--- What is kept is a state of a reduction of this system: its text is read as the system, and its words write a
--- configuration that is reached from there by the interactions that it tells. Each of its agents has its arguments, and each
+-- what a system keeps whose rules and configuration were read
+pub record IsSound (s : SystemParts) : Type 0 where
+  pub rules : IsRuleSet s.rules
+  pub over : IsTrue (is_over s.rules.symbols s.config)
+  pub names : HasNames s.config
+
+-- What is kept is a state of a reduction of this system: its text is read as a system with the same rules and symbols, and its
+-- words write a configuration that is reached from this system's by the interactions that it tells. Each of its agents has its arguments, and each
 -- of its equations two sides. If it isn't too large to be read, its names may stand in a text. If it has ended, no step is
 -- possible.
 pub record IsStateOf (s : SystemParts) (k : Kept) : Type 0 where
-  pub reads : ReadsSystemWithin Wide k.text (Ok s)
+  pub sound : IsSound s
+  pub read : SystemParts
+  pub reads : ReadsSystemWithin Wide k.text (Ok read)
+  pub rules : read.rules ≡ s.rules
   pub next : ℕ
   pub way : IsOnWay s (configuration_of k.words k.terms next) k.interactions k.by_rule
   pub low : length k.words ≤ MAX_WIDE_NODES → next ≤ MAX_NAME + 1
@@ -81,12 +90,6 @@ pub record IsBegun (s : SystemParts) (k : Kept) : Type 0 where
   pub none : k.interactions ≡ 0
   pub goes_on : k.ended ≡ false
   pub millis : k.millis ≡ 0
-
--- what a system keeps whose rules and configuration were read
-pub record IsSound (s : SystemParts) : Type 0 where
-  pub rules : IsRuleSet s.rules
-  pub over : IsTrue (is_over s.rules.symbols s.config)
-  pub names : HasNames s.config
 
 -- these are the rules of this system, which keeps what those do that were read
 pub record AreRulesOf (s : SystemParts) (rules : Rules) : Type 0 where

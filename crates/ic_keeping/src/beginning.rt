@@ -1,6 +1,6 @@
 //! The state that a reduction begins with, in two files, and the one with which it goes on.
 
-ghost use Rattle.std.specs.Prelude.{◌≡◌, ◌≢◌, ◌⊎◌, ℕ, List, [], false, Ok, Err, IfOk, IfErr, IsTrue, IsErrOf, OnOk, length, slice_index_or};
+ghost use Rattle.std.specs.Prelude.{◌≡◌, ◌≢◌, ◌⊎◌, ◌≤◌, ℕ, List, [], false, Ok, Err, IfOk, IfErr, IsTrue, IsErrOf, OnOk, length, slice_index_or};
 ghost use Rattle.std.specs.Arc.{arc_value};
 ghost use Rattle.std.specs.List.{AllByRecursion};
 ghost use Rattle.ic_disk.specs.Images.{Within};
@@ -20,6 +20,7 @@ ghost use Rattle.ic_keeping.specs.Way.{AreRulesOf, IsBegun, IsFormOf, IsStateOf}
 
 use crate::fault::KeepingFault;
 use crate::systems::systems_are_sound;
+use crate::text::kept_text;
 use ic_disk::Disk;
 use ic_kept::{CreateFault, Keeper, OpenFault, create};
 use ic_rules::RuleSet;
@@ -39,9 +40,11 @@ pub struct Start {
 
 /// With what the reduction of a text begins.
 pub fn begun(alloc: Global, text: &[u8]) -> Result<Start, Misread>
-    ensures read { IfOk result (λ begun. (s : SystemParts) × IsBegun s (kept_by begun.state)
+    ensures read { IfOk result (λ begun. (s : SystemParts)
+        × ReadsSystemWithin Limits.Wide text.now (Ok s) × IsBegun s (kept_by begun.state)
         × AreRulesOf s (arc_value begun.rules)) }
-    ensures text { IfOk result (λ begun. begun.state.text.items ≡ text.now) }
+    // The text that is kept with it is read as a system with the same rules, and is no longer.
+    ensures short { IfOk result (λ begun. length begun.state.text.items ≤ length text.now) }
     ensures refused { IfErr result (λ misread. misread.fault ≢ TextFault.Memory
         → ReadsSystemWithin Limits.Wide text.now (Err misread.fault)) }
 {
@@ -51,7 +54,7 @@ pub fn begun(alloc: Global, text: &[u8]) -> Result<Start, Misread>
     let (rules, config) = system.into_parts();
     let by_rule = zeros(alloc, rules.rules().len())?;
     let (words, terms, _, _) = config.into_parts();
-    let kept = text.to_vec(alloc)?;
+    let kept = kept_text(alloc, text, &rules)?;
     let state = State {
         text: kept,
         words,

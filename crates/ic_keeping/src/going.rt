@@ -69,8 +69,6 @@ pub struct Ended {
 fn rules_of(alloc: Global, text: &[u8]) -> Result<Arc<RuleSet>, KeepingFault>
     ensures rules { (s : SystemParts) → ReadsSystemWithin Limits.Wide text.now (Ok s)
         → IfOk result (λ rules. arc_value rules ≡ s.rules) }
-    ensures sound { (s : SystemParts) → ReadsSystemWithin Limits.Wide text.now (Ok s)
-        → OnOk result (IsSound s) }
     ensures read { OnOk result ((s : SystemParts)
         × ReadsSystemWithin Limits.Wide text.now (Ok s)) }
     ensures refused { (s : SystemParts) → ReadsSystemWithin Limits.Wide text.now (Ok s)
@@ -84,10 +82,7 @@ fn rules_of(alloc: Global, text: &[u8]) -> Result<Arc<RuleSet>, KeepingFault>
 {
     ic_text::laws::one_system_reading();
     match find_wide_system(alloc, Limits::Wide, text) {
-        Ok(system) => {
-            systems_are_sound(&system);
-            Ok(system.into_parts().0)
-        }
+        Ok(system) => Ok(system.into_parts().0),
         Err(misread) => Err(unread(misread.fault)),
     }
 }
@@ -97,8 +92,6 @@ pub(crate) fn rules_for(alloc: Global, state: &State) -> Result<Arc<RuleSet>, Ke
     ensures rules { (s : SystemParts)
         → ReadsSystemWithin Limits.Wide state.now.text.items (Ok s)
         → IfOk result (λ rules. arc_value rules ≡ s.rules) }
-    ensures sound { (s : SystemParts)
-        → ReadsSystemWithin Limits.Wide state.now.text.items (Ok s) → OnOk result (IsSound s) }
     ensures read { OnOk result ((s : SystemParts)
         × ReadsSystemWithin Limits.Wide state.now.text.items (Ok s)
         × (length state.now.by_rule.items ≡ length s.rules.rules)) }

@@ -6,8 +6,11 @@ ghost use Rattle.std.specs.Option.{option_map};
 ghost use Rattle.ic_disk.specs.Images.{Within};
 ghost use Rattle.ic_disk.specs.Time.{LeftSince};
 ghost use Rattle.ic_term.specs.Configuration.{Configuration, configuration_nodes};
+ghost use Rattle.ic_term.specs.Symbol.{is_over};
 ghost use Rattle.ic_term.specs.declared.limits.TheConstants.{MAX_WIDE_NODES};
+ghost use Rattle.ic_round.specs.Naming.{HasNames};
 ghost use Rattle.ic_round.specs.Quiet.{IsQuiet};
+ghost use Rattle.ic_rules.specs.RuleSet.{IsRuleSet};
 ghost use Rattle.ic_confluence.specs.Kinds.{Kind, Chain};
 ghost use Rattle.ic_reaching.specs.OneNet.{OneNet, SameButNext};
 ghost use Rattle.ic_reaching.specs.Reaching.{Reaches, rules_fired};
@@ -190,11 +193,13 @@ pub fn a_first_life_is_one_of_them<D: Disk>(first: &D, second: &D)
     ic_state::laws::each_state_has_its_own_bytes();
 }
 
-/// What a state of a reduction says: its text is read as the system, and its interactions lead there. One that has begun is
+/// What a state of a reduction says: its text is read as a system with the same rules, and its interactions lead there. One that has begun is
 /// the system's configuration, and of one that has ended no step is possible.
 pub fn what_a_kept_state_says()
-    ensures reads { (s : SystemParts) (k : Kept) → IsStateOf s k
-        → ReadsSystemWithin Wide k.text (Ok s) }
+    ensures reads { (s : SystemParts) (k : Kept) → IsStateOf s k → (read : SystemParts)
+        × ReadsSystemWithin Wide k.text (Ok read) × (read.rules ≡ s.rules) }
+    ensures sound { (s : SystemParts) (k : Kept) → IsStateOf s k → IsRuleSet s.rules
+        × IsTrue (is_over s.rules.symbols s.config) × HasNames s.config }
     ensures way { (s : SystemParts) (k : Kept) → IsStateOf s k → (next : ℕ) × (fired : List ℕ)
         × Reaches s.rules.rules s.config (configuration_of k.words k.terms next) fired
         × (k.interactions ≡ length fired) × AreCounts (length s.rules.rules) fired k.by_rule }

@@ -1,6 +1,6 @@
 //! A large reduction that is kept now and then, so that it survives a stop at any moment.
 //!
-//! `begun` reads a text as a state with no interactions, and `live_anew` keeps it and reduces it in pieces, each of which is
+//! `begun` reads a text as a state with no interactions, which keeps a text with its rules, and `live_anew` keeps it and reduces it in pieces, each of which is
 //! kept. A reduction that was stopped goes on by `live` from the state that was kept last.
 #![tactic(auto)]
 
@@ -13,6 +13,7 @@ pub mod laws;
 mod life;
 mod pace;
 mod systems;
+mod text;
 
 pub use anew::live_anew;
 pub use beginning::{ResumeFault, Start, begin, begun, resume};

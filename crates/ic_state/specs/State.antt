@@ -8,7 +8,7 @@ use Rattle.ic_state.specs.declared.form.TheConstants.{FORMAT}
 use Rattle.ic_state.specs.Numbers.{eight_bytes}
 use Rattle.ic_state.specs.Words.{word_bytes, IsKeptWord}
 
--- The text that a reduction began with, the words that were reached and how many terms their interface has, how many
+-- A text with the rules of a reduction, the words that were reached and how many terms their interface has, how many
 -- interactions were made, in all and by each rule, whether it has ended, and for how many milliseconds it has gone on.
 pub record Kept : Type 0 where
   pub text : List ℕ

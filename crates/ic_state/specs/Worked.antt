@@ -31,9 +31,9 @@ joins_ended = record {
   millis = 1027;
 }
 
--- a text with three rules, of which the symbols are `A` 0 and `B` 1
+-- a text that has three rules and nothing else of a system but its symbols, `A` 0 and `B` 1
 abbrev pub meets : List ℕ
-meets = codes "{A><A; A><B; B><B} <x,B|x=A>"
+meets = codes "{A><A; A><B; B><B}<A,B|>"
 
 -- A state with this text whose numbers are apart: two terms, four words, five interactions in 40 milliseconds, and not ended.
 -- The rules have fired never, twice and three times.
@@ -77,7 +77,7 @@ ended_by_hand = format_by_hand
     ++ agent_in_eight 2 0
     ++ joins
 
--- The 140 bytes: two terms, five interactions, not ended, three rules, four words, 40 milliseconds; the rules have fired 0, 2
+-- The 136 bytes: two terms, five interactions, not ended, three rules, four words, 40 milliseconds; the rules have fired 0, 2
 -- and 3 times.
 abbrev pub midway_by_hand : List ℕ
 midway_by_hand = format_by_hand

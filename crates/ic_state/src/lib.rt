@@ -1,4 +1,4 @@
-//! The byte form of a reduction that is kept: the text that it began with, and how far it has come.
+//! The byte form of a reduction that is kept: a text with its rules, and how far it has come.
 //!
 //! `encode` gives the bytes of a state, and `decode` the state of which bytes are the form. Whether its words write a
 //! configuration over the symbols of its text is judged by the crates above. `specs/` has the form as definitions.

@@ -2,10 +2,10 @@
 
 use ic_flat::Word;
 
-/// The text that a reduction began with, and how far it has come.
+/// A text with the rules of a reduction, and how far it has come.
 #[derive(Debug, Drop)]
 pub struct State {
-    /// The text of the system that is reduced: its rules, and the configuration that was read first.
+    /// A text that has the rules and the symbols of the system that is reduced.
     pub text: Vec<u8>,
     /// The words of the configuration that was reached, the interface's before the equations'.
     pub words: Vec<Word>,

@@ -19,11 +19,17 @@ returns-clause-read c =
     let rules = c.rules.ensures.rules ∙ ap (λ (r : Rules). r.rules) (c.deref.ensures ∙ c.into_parts-rules.ensures.rules) in
     let whole : configuration_of words terms c.into_parts-words.result.3 ≡ s.config = c.into_parts-words.ensures.same ∙ c.into_parts-rules.ensures.config in
     let config : configuration_of words terms s.config.next ≡ s.config =
-    subst (λ (n : ℕ). configuration_of words terms n ≡ s.config) (ap (λ (d : Configuration). d.next) whole) whole in (
+    subst (λ (n : ℕ). configuration_of words terms n ≡ s.config) (ap (λ (d : Configuration). d.next) whole) whole in
+    let given : c.deref-2.result.now ≡ s.rules = c.deref-2.ensures ∙ c.into_parts-rules.ensures.rules in
+    let kept = c.in_ok-kept.ensures.read s c.in_ok-system.ensures.read (sym given) in (
       s,
+      c.in_ok-system.ensures.read,
       record {
         state = record {
-          reads = subst (λ (text : List ℕ). ReadsSystemWithin Wide text (Ok s)) (sym (c.in_ok-kept.ensures.items_if_clones_equal (λ x y e. e))) c.in_ok-system.ensures.read;
+          sound = c.systems_are_sound.ensures.sound;
+          read = kept.0;
+          reads = kept.1;
+          rules = kept.2 ∙ given;
           next = s.config.next;
           way = subst (λ (d : Configuration). IsOnWay s d 0 by) (sym config)
               (begun_on_way s by c.what_is_reached_is_one_net.ensures.itself c.systems_are_sound.ensures.sound.names (c.in_ok-by_rule.ensures.long ∙ ap length rules) c.in_ok-by_rule.ensures.none);

@@ -1,14 +1,6 @@
-use Rattle.std.proofs.Common.{◌≡◌, ⊎_elim, Ok, Err, subst}
-use Rattle.ic_rules.specs.System.{SystemParts}
+use Rattle.std.proofs.Common.{⊎_elim, Ok, Err}
 use Rattle.ic_text.specs.declared.limits.Limits.TheVariants.{Wide}
-use Rattle.ic_keeping.specs.Way.{IsSound}
 use Rattle.ic_keeping.proofs.going.rules_of.Goals as goal
-
-pub returns-in-Ok-clause-sound : goal.returns-in-Ok-clause-sound
-returns-in-Ok-clause-sound c s reads =
-    let one = c.one_system_reading.ensures.answer Wide c.args.text.now (Ok c.in-Ok.system) (Ok s) c.in-Ok.ensures.read reads in
-    let same : c.in-Ok.system ≡ s = cc (one) in
-    subst (λ (t : SystemParts). IsSound t) same c.systems_are_sound.ensures.sound
 
 pub returns-in-Err-clause-refused : goal.returns-in-Err-clause-refused
 returns-in-Err-clause-refused c s reads = ⊎_elim

@@ -1,7 +1,10 @@
 use Rattle.ic_keeping.proofs.laws.what_a_kept_state_says.Goals as goal
 
 pub returns-clause-reads : goal.returns-clause-reads
-returns-clause-reads c = λ s k is. is.reads
+returns-clause-reads c = λ s k is. (is.read, is.reads, is.rules)
+
+pub returns-clause-sound : goal.returns-clause-sound
+returns-clause-sound c = λ s k is. (is.sound.rules, is.sound.over, is.sound.names)
 
 pub returns-clause-way : goal.returns-clause-way
 returns-clause-way c = λ s k is. (is.next, is.way.fired, is.way.reached, is.way.counted, is.way.counts)

@@ -11,6 +11,7 @@ use Rattle.ic_text.specs.SystemText.{ReadsSystemWithin}
 use Rattle.ic_text.specs.declared.limits.Limits.TheVariants.{Wide}
 use Rattle.ic_keeping.specs.Way.{AreRulesOf, IsStateOf}
 use Rattle.ic_keeping.proofs.LivesLemmas.{held_is}
+use Rattle.ic_keeping.proofs.WayLemmas.{are_rules}
 use Rattle.ic_keeping.proofs.Refusing.{as_a_life, as_read, opening_keeps_none, opening_not_limit, run_not_unsound, text_not_limit}
 use Rattle.ic_keeping.proofs.life.live.Goals as goal
 use Rattle.ic_keeping.proofs.life.live.Goals.{In-Ok}
@@ -18,19 +19,19 @@ use Rattle.ic_keeping.proofs.life.live.Goals.{In-Ok}
 pub returns-in-Ok-go_on-clause-answer : goal.returns-in-Ok-go_on-clause-answer
 returns-in-Ok-go_on-clause-answer g c s keeps keeps_too held =
     let is = c.in_ok-keeper.ensures.state s keeps keeps_too held in
-    c.in-Ok-go_on.ensures.answer s (record { same = c.in-Ok.ensures.rules s is.reads; sound = c.in-Ok.ensures.sound s is.reads }) is
+    c.in-Ok-go_on.ensures.answer s (are_rules s (kept_by c.in_ok-keeper.state) (arc_value c.in-Ok.rules) is c.in-Ok.ensures.rules) is
 
 pub returns-in-Ok-go_on-clause-told : goal.returns-in-Ok-go_on-clause-told
 returns-in-Ok-go_on-clause-told g c s keeps keeps_too held =
     let is = c.in_ok-keeper.ensures.state s keeps keeps_too held in
-    c.in-Ok-go_on.ensures.told s (record { same = c.in-Ok.ensures.rules s is.reads; sound = c.in-Ok.ensures.sound s is.reads }) is
+    c.in-Ok-go_on.ensures.told s (are_rules s (kept_by c.in_ok-keeper.state) (arc_value c.in-Ok.rules) is c.in-Ok.ensures.rules) is
 
 pub returns-in-Ok-go_on-clause-kept : goal.returns-in-Ok-go_on-clause-kept
 returns-in-Ok-go_on-clause-kept g c s keeps keeps_too held =
     let found = c.in_ok-keeper.ensures in
     let kept = found.kept keeps keeps_too in
     let is = found.state s keeps keeps_too held in
-    c.in-Ok-go_on.ensures.kept s (record { same = c.in-Ok.ensures.rules s is.reads; sound = c.in-Ok.ensures.sound s is.reads }) is found.sound kept.0 kept.1
+    c.in-Ok-go_on.ensures.kept s (are_rules s (kept_by c.in_ok-keeper.state) (arc_value c.in-Ok.rules) is c.in-Ok.ensures.rules) is found.sound kept.0 kept.1
 
 pub returns-in-Ok-go_on-clause-life : goal.returns-in-Ok-go_on-clause-life
 returns-in-Ok-go_on-clause-life g c s least keeps keeps_too held =
@@ -40,7 +41,7 @@ returns-in-Ok-go_on-clause-life g c s least keeps keeps_too held =
     let here = found.found keeps keeps_too in
     let kept = found.kept keeps keeps_too in
     let are = λ (is : IsStateOf s (kept_by c.in_ok-keeper.state)).
-    let given : AreRulesOf s (arc_value c.in-Ok.rules) = record { same = c.in-Ok.ensures.rules s is.reads; sound = c.in-Ok.ensures.sound s is.reads } in
+    let given : AreRulesOf s (arc_value c.in-Ok.rules) = are_rules s (kept_by c.in_ok-keeper.state) (arc_value c.in-Ok.rules) is c.in-Ok.ensures.rules in
     given in
     let is = held_is c.one_state_is_held.ensures c.each_state_has_its_own_bytes.ensures s least (disk.content c.args.first) (disk.content c.args.second) state found.sound here held in (
       state,
@@ -69,7 +70,7 @@ returns-in-Err-go_on-clause-stopped g c s keeps keeps_too held =
         is_kept = found.sound;
         state = is;
         opened = record { held = found.found keeps keeps_too; model = kept.0; keeps = kept.1; reads = found.reads keeps keeps_too };
-        way = c.in-Err-go_on.ensures.way s (record { same = c.in-Ok.ensures.rules s is.reads; sound = c.in-Ok.ensures.sound s is.reads }) is found.sound;
+        way = c.in-Err-go_on.ensures.way s (are_rules s (kept_by c.in_ok-keeper.state) (arc_value c.in-Ok.rules) is c.in-Ok.ensures.rules) is found.sound;
       },
       c.close-first.ensures.newest,
       c.close-first.ensures.other,
@@ -79,7 +80,7 @@ returns-in-Err-go_on-clause-stopped g c s keeps keeps_too held =
 pub returns-in-Err-go_on-clause-refused : goal.returns-in-Err-go_on-clause-refused
 returns-in-Err-go_on-clause-refused g c s keeps keeps_too held =
     let is = c.in_ok-keeper.ensures.state s keeps keeps_too held in
-    inr (inr (c.in-Err-go_on.ensures.refused s (record { same = c.in-Ok.ensures.rules s is.reads; sound = c.in-Ok.ensures.sound s is.reads }) is))
+    inr (inr (c.in-Err-go_on.ensures.refused s (are_rules s (kept_by c.in_ok-keeper.state) (arc_value c.in-Ok.rules) is c.in-Ok.ensures.rules) is))
 
 pub returns-in-Err-go_on-clause-usable : goal.returns-in-Err-go_on-clause-usable
 returns-in-Err-go_on-clause-usable g c same =
@@ -160,7 +161,7 @@ returns-in-Err-go_on-clause-unsound g c keeps keeps_too same =
       found.found keeps keeps_too,
       λ s form.
           let is = subst (λ (x : Kept). IsStateOf s x) (c.each_state_has_its_own_bytes.ensures form.0 k form.1 found.sound (sym form.3)) form.2 in
-          run_not_unsound c.in-Err-go_on.cause (c.in-Err-go_on.ensures.refused s (record { same = c.in-Ok.ensures.rules s is.reads; sound = c.in-Ok.ensures.sound s is.reads }) is) same,
+          run_not_unsound c.in-Err-go_on.cause (c.in-Err-go_on.ensures.refused s (are_rules s (kept_by c.in_ok-keeper.state) (arc_value c.in-Ok.rules) is c.in-Ok.ensures.rules) is) same,
     )
 
 pub returns-in_err-keeper-clause-unsound : goal.returns-in_err-keeper-clause-unsound
@@ -174,7 +175,7 @@ pub returns-in-Err-go_on-clause-limit : goal.returns-in-Err-go_on-clause-limit
 returns-in-Err-go_on-clause-limit g c s keeps keeps_too held limit =
     let found = c.in_ok-keeper.ensures in
     let is = found.state s keeps keeps_too held in
-    (kept_by c.in_ok-keeper.state, found.found keeps keeps_too, c.in-Err-go_on.ensures.limit s (record { same = c.in-Ok.ensures.rules s is.reads; sound = c.in-Ok.ensures.sound s is.reads }) is limit)
+    (kept_by c.in_ok-keeper.state, found.found keeps keeps_too, c.in-Err-go_on.ensures.limit s (are_rules s (kept_by c.in_ok-keeper.state) (arc_value c.in-Ok.rules) is c.in-Ok.ensures.rules) is limit)
 
 pub returns-in_err-keeper-clause-limit : goal.returns-in_err-keeper-clause-limit
 returns-in_err-keeper-clause-limit g c s keeps keeps_too held =
