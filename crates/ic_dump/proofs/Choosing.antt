@@ -8,8 +8,7 @@ use Rattle.std.proofs.lemmas.Bool.{false_from_ne_true, false≢true, or_right}
 use Rattle.std.proofs.lemmas.Option.{none-some}
 use Rattle.ic_jobs.specs.Job.{JobParts}
 use Rattle.ic_jobs.specs.Table.{is_named, job_named, job_names}
-use Rattle.ic_dump.specs.Dumping.{is_chosen, chosen, first_missing}
-use Rattle.ic_dump.specs.Missing.{AreHad, IsFirstMissing}
+use Rattle.ic_dump.specs.Dumping.{is_chosen, chosen, first_missing, AreHad}
 
 -- ---- elements of a list
 
@@ -91,9 +90,6 @@ module _ (t : List JobParts) where
   abbrev has : List ℕ → Bool
   has name = is_some (job_named name t)
 
-  not_had : (name : List ℕ) → has name ≡ false → ¬ Contains (job_names t) name
-  not_had name e c = false≢true (sym e ∙ named_is_found name t c)
-
   has_not : (name : List ℕ) → ¬ Contains (job_names t) name → has name ≡ false
   has_not name none = false_from_ne_true (has name) (λ e. none (found_is_named name t e))
 
@@ -110,35 +106,10 @@ module _ (t : List JobParts) where
   had_first : (n : List ℕ) (ns : List (List ℕ)) → AreHad t (n ∷ ns) → has n ≡ true
   had_first n ns are = named_is_found n t (are n (at_front n n ns refl))
 
-  with_first : (n name : List ℕ) (ns : List (List ℕ)) → has n ≡ true → IsFirstMissing ns t name → IsFirstMissing (n ∷ ns) t name
-  with_first n name ns e first = record {
-    before = n ∷ first.before;
-    after = first.after;
-    parted = ap (λ l. n ∷ l) first.parted;
-    had = had_with n first.before e first.had;
-    missing = first.missing;
-  }
-
-  missing_from : (names : List (List ℕ)) (name : List ℕ) → first_missing names t ≡ Some name → IsFirstMissing names t name
-  missing_from [] name e = absurd (none-some name e)
-  missing_from (n ∷ ns) name e = by_test (has n) refl e (missing_from ns name)
-    where
-      by_test : (b : Bool) → has n ≡ b → cond (not b) (Some n) (first_missing ns t) ≡ Some name → (first_missing ns t ≡ Some name → IsFirstMissing ns t name) → IsFirstMissing (n ∷ ns) t name
-      by_test true is told further = with_first n name ns is (further told)
-      by_test false is told further =
-          let same : n ≡ name = cc in
-          record { before = []; after = ns; parted = ap (λ x. x ∷ ns) same; had = λ x c. absurd (none_of_none x c); missing = subst (λ x. ¬ Contains (job_names t) x) same (not_had n is) }
-
   passed_had : (before rest : List (List ℕ)) → AreHad t before → first_missing (before ++ rest) t ≡ first_missing rest t
   passed_had [] rest are = refl
   passed_had (n ∷ ns) rest are =
       ap (λ b. cond (not b) (Some n) (first_missing (ns ++ rest) t)) (had_first n ns are) ∙ passed_had ns rest (had_after n ns are)
-
-  missing_told : (names : List (List ℕ)) (name : List ℕ) → IsFirstMissing names t name → first_missing names t ≡ Some name
-  missing_told names name first =
-      ap (λ ns. first_missing ns t) first.parted
-      ∙ passed_had first.before (name ∷ first.after) first.had
-      ∙ ap (λ b. cond (not b) (Some name) (first_missing first.after t)) (has_not name first.missing)
 
   none_missing : (names : List (List ℕ)) → first_missing names t ≡ None → AreHad t names
   none_missing [] e = λ name c. absurd (none_of_none name c)
@@ -152,8 +123,11 @@ module _ (t : List JobParts) where
   all_had [] are = refl
   all_had (n ∷ ns) are = ap (λ b. cond (not b) (Some n) (first_missing ns t)) (had_first n ns are) ∙ all_had ns (had_after n ns are)
 
-pub missing_first : (names : List (List ℕ)) (t : List JobParts) (name : List ℕ) → (first_missing names t ≡ Some name) ↔ IsFirstMissing names t name
-missing_first names t name = (missing_from t names name, missing_told t names name)
+pub missing_first : (names before after : List (List ℕ)) (name : List ℕ) (t : List JobParts) → names ≡ before ++ name ∷ after → AreHad t before → ¬ Contains (job_names t) name → first_missing names t ≡ Some name
+missing_first names before after name t parted had missing =
+    ap (λ ns. first_missing ns t) parted
+    ∙ passed_had t before (name ∷ after) had
+    ∙ ap (λ b. cond (not b) (Some name) (first_missing after t)) (has_not t name missing)
 
 pub missing_none : (names : List (List ℕ)) (t : List JobParts) → (first_missing names t ≡ None) ↔ AreHad t names
 missing_none names t = (none_missing t names, all_had t names)

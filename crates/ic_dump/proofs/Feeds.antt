@@ -21,8 +21,7 @@ use Rattle.ic_text.specs.SystemText.{SpellsSystem}
 use Rattle.ic_text.specs.Text.{text_of, printed}
 use Rattle.ic_commands.specs.LinePlain.{budget_text}
 use Rattle.ic_lines.specs.Lines.{has_feed}
-use Rattle.ic_dump.specs.Writing.{system_of, system_text}
-use Rattle.ic_dump.specs.Telling.{told_system, job_line}
+use Rattle.ic_dump.specs.Telling.{system_of, system_text, told_system, job_line}
 
 -- ---- two texts, one after the other
 unfed_both : (xs ys : List ℕ) → has_feed xs ≡ false → has_feed ys ≡ false → has_feed (xs ++ ys) ≡ false

@@ -12,7 +12,7 @@ use Rattle.ic_jobs.specs.Events.{Outcome, after_command, outcome, refused}
 use Rattle.ic_jobs.specs.declared.limits.TheConstants.{MAX_JOBS}
 use Rattle.ic_jobs.specs.declared.reply.Reply.TheVariants.{Accepted}
 use Rattle.ic_jobs.specs.declared.reply.Refusal.TheVariants.{Taken, Full}
-use Rattle.ic_dump.specs.Filling.{begun_again, submit_of, table_after}
+use Rattle.ic_dump.specs.Submitting.{begun_again, submit_of, table_after}
 
 -- a name after others that differ from it
 none_named : (name : List ℕ) (js : List JobParts) → AllByRecursion (λ j. bytes_eq name j.name ≡ false) js → job_named name (map begun_again js) ≡ None

@@ -18,10 +18,8 @@ use Rattle.ic_naming.specs.Naming.{renumbered, told_name}
 use Rattle.ic_naming.specs.lemmas.Occurring.{led_back, undone_in}
 use Rattle.ic_naming.specs.lemmas.Renumbered.{renumbered-names}
 use Rattle.ic_naming.specs.lemmas.ToldNames.{named, told_undone}
-use Rattle.ic_dump.specs.Alike.{HasFreeNamesOfTexts, IsFree}
-use Rattle.ic_dump.specs.Told.{has_names_of_texts, told}
-use Rattle.ic_dump.specs.Telling.{job_line}
-use Rattle.ic_dump.specs.Filling.{read_again, submit_of}
+use Rattle.ic_dump.specs.Submitting.{HasFreeNamesOfTexts, IsFree, read_again, submit_of}
+use Rattle.ic_dump.specs.Telling.{has_names_of_texts, told, job_line}
 use Rattle.ic_dump.proofs.Submitting.{read_alike}
 use Rattle.ic_dump.proofs.Turned.{interface_names_written, equation_names_written}
 

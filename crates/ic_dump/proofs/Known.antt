@@ -18,7 +18,7 @@ use Rattle.ic_text.specs.Source.{Source, leaf, node, Sources, no_sources, more_s
 use Rattle.ic_text.specs.SystemSource.{RulePhrase, IsRulePhrase, agent_source, rule_symbols}
 use Rattle.ic_text.specs.Text.{text_or_none, source_of, sources_of, sides_of}
 use Rattle.ic_text.specs.lemmas.WrittenBack.{text-get_or}
-use Rattle.ic_dump.specs.Writing.{agent_of, rule_of}
+use Rattle.ic_dump.specs.Telling.{agent_of, rule_of}
 use Rattle.ic_dump.proofs.Lists.{All-join, All-split, All-at}
 
 -- a symbol stands in a table

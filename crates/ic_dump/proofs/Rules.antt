@@ -17,7 +17,7 @@ use Rattle.ic_text.specs.Source.{count_of, source_symbols}
 use Rattle.ic_text.specs.SystemSource.{agent_source, rule_symbols}
 use Rattle.ic_text.specs.Sense.{number_in_table}
 use Rattle.ic_text.specs.Text.{text_or_none, sources_of}
-use Rattle.ic_dump.specs.Writing.{agent_of, rule_of}
+use Rattle.ic_dump.specs.Telling.{agent_of, rule_of}
 use Rattle.ic_dump.proofs.Lists.{All-join, All-split}
 use Rattle.ic_dump.proofs.Known.{symbol_there, one_place}
 use Rattle.ic_dump.proofs.Table.{Placed}

@@ -29,7 +29,7 @@ use Rattle.ic_text.specs.SystemSense.{system_table, is_system_in_limits, rule_ov
 use Rattle.ic_text.specs.Text.{source_of, sides_of}
 use Rattle.ic_naming.specs.lemmas.ToldNames.{firsts_within, numbers_below}
 use Rattle.ic_text.specs.lemmas.WrittenBack.{phrase_back}
-use Rattle.ic_dump.specs.Writing.{rule_of, system_of}
+use Rattle.ic_dump.specs.Telling.{rule_of, system_of}
 use Rattle.ic_dump.proofs.Lists.{All-join, All-split, All-at}
 use Rattle.ic_dump.proofs.NodeNames.{list_names_within}
 use Rattle.ic_dump.proofs.Known.{Known, known_rules, known_interface, known_equations, interface_is, equations_are, rules_are}

@@ -19,7 +19,7 @@ use Rattle.ic_lines.specs.Answers.{Reading, after, out}
 use Rattle.ic_lines.specs.Serving.{AreRead, IsServed}
 use Rattle.ic_dump.specs.Telling.{job_line, is_too_long}
 use Rattle.ic_dump.specs.Dumping.{is_chosen, chosen, first_missing, lines_of, unless_long, unless_missing, dumped}
-use Rattle.ic_dump.specs.Filling.{accepted, begun_again, submit_of, table_after}
+use Rattle.ic_dump.specs.Submitting.{accepted, begun_again, submit_of, table_after}
 use Rattle.ic_dump.proofs.Filling.{filled, one_more, one_after}
 
 -- what the line of a job is read as

@@ -18,11 +18,8 @@ use Rattle.ic_commands.specs.declared.line.Line.TheVariants.{Command as Asks}
 use Rattle.ic_commands.specs.LineText.{ReadsLine}
 use Rattle.ic_commands.specs.LinePlain.{IsPlainly, budget_text}
 use Rattle.ic_naming.specs.Naming.{told_name}
-use Rattle.ic_dump.specs.Writing.{system_of, system_text}
-use Rattle.ic_dump.specs.Telling.{told_system, job_line}
-use Rattle.ic_dump.specs.Told.{told}
-use Rattle.ic_dump.specs.Filling.{read_again, submit_of}
-use Rattle.ic_dump.specs.Alike.{Submits}
+use Rattle.ic_dump.specs.Telling.{system_of, system_text, told_system, job_line, told}
+use Rattle.ic_dump.specs.Submitting.{read_again, submit_of, Submits}
 use Rattle.ic_text.specs.lemmas.WrittenTokens.{tokens-braces}
 use Rattle.ic_dump.proofs.Sense.{IsWhole, is_system, has_sense, written_again}
 use Rattle.ic_dump.proofs.Told.{told_renamed, told_whole}

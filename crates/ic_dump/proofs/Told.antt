@@ -13,9 +13,8 @@ use Rattle.ic_text.specs.declared.limits.TheConstants.{MAX_NAME}
 use Rattle.ic_naming.specs.Naming.{renamed_pair, renumbered, told_name}
 use Rattle.ic_naming.specs.lemmas.Renumbered.{few_names, renumbered-is, renumbered-over, renumbered-names}
 use Rattle.ic_naming.specs.lemmas.ToldNames.{all_low, one_to_one, told_apart}
-use Rattle.ic_dump.specs.Told.{has_names_of_texts, told}
-use Rattle.ic_dump.specs.Telling.{told_system}
-use Rattle.ic_dump.specs.Alike.{IsRenaming}
+use Rattle.ic_dump.specs.Telling.{has_names_of_texts, told, told_system}
+use Rattle.ic_dump.specs.Submitting.{IsRenaming}
 use Rattle.ic_dump.proofs.Sense.{IsWhole}
 
 -- ---- names that stay

@@ -16,7 +16,7 @@ use Rattle.ic_text.specs.SystemSource.{RulePhrase, AgentPhrase, agent_source, ru
 use Rattle.ic_text.specs.Sense.{has_its_arity, number_in_table, numbered_tree, numbered_trees}
 use Rattle.ic_text.specs.SystemSense.{rule_over}
 use Rattle.ic_text.specs.Text.{text_or_none, source_of, sources_of, sides_of}
-use Rattle.ic_dump.specs.Writing.{agent_of, rule_of}
+use Rattle.ic_dump.specs.Telling.{agent_of, rule_of}
 use Rattle.ic_text.specs.lemmas.WrittenBack.{text_found, sources_back}
 use Rattle.ic_flat.specs.lemmas.WordLaws.{trees_of-list_of}
 

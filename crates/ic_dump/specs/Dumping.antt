@@ -1,13 +1,22 @@
--- What a dump of a table writes (this project's choice).
-use Rattle.std.specs.Prelude.{◌≡◌, ℕ, List, [], ◌∷◌, ◌++◌, Bool, true, not, is_some, Option, None, Some, Result, Ok, Err, filter, find}
+-- What a dump of a table or of a disk writes, and what its faults say (this project's choice).
+use Rattle.std.specs.Prelude.{ℕ, List, Contains, ◌≡◌, [], ◌∷◌, ◌++◌, Bool, true, not, is_some, Option, None, Some, Result, Ok, Err, filter, find, IsTrue}
+use Rattle.ic_jobs.specs.Job.{JobParts}
+use Rattle.ic_jobs.specs.Table.{job_names, is_named, job_named, IsTable}
 use Rattle.std.specs.List.{flat_map, list_any}
 use Rattle.std.specs.Io.KnownBytes.{Appends}
 use Rattle.ic_output.specs.Output.{AppendsFront}
-use Rattle.ic_jobs.specs.Job.{JobParts}
-use Rattle.ic_jobs.specs.Table.{is_named, job_named}
 use Rattle.ic_dump.specs.declared.fault.DumpFault.{DumpFault}
 use Rattle.ic_dump.specs.declared.fault.DumpFault.TheVariants.{NoJob, TooLong, Memory, Write}
 use Rattle.ic_dump.specs.Telling.{job_line, is_too_long}
+use Rattle.ic_frames.specs.declared.faults.OpenCause.{OpenCause}
+use Rattle.ic_slots.specs.Held.{IsHeld, the_table}
+use Rattle.ic_slots.specs.Opening.{Says}
+use Rattle.ic_dump.specs.declared.fault.DiskDumpFault.{DiskDumpFault}
+use Rattle.ic_dump.specs.declared.fault.DiskDumpFault.TheVariants.{Open, Dump}
+
+-- each of these names is that of a job
+abbrev pub AreHad : List JobParts → List (List ℕ) → Type 0
+AreHad t names = (name : List ℕ) → Contains names name → Contains (job_names t) name
 
 -- a job is asked for: it has one of the names, or no name is given
 abbrev pub is_chosen : List (List ℕ) → JobParts → Bool
@@ -72,3 +81,33 @@ dump_fault_number Write = 4
 -- all faults, in the order of their lasting numbers
 abbrev pub all_dump_faults : List ℕ → List DumpFault
 all_dump_faults name = NoJob name ∷ TooLong name ∷ Memory ∷ Write ∷ []
+
+-- a table that is found on a disk of which reads give this file: the one that the file holds, where the
+-- disk keeps the model
+abbrev pub IsFound : Bool → (file : List ℕ) → List JobParts → Type 0
+IsFound keeps file t = IsTable t × (IsTrue keeps → IsHeld (the_table t) file)
+
+-- the dump of the table that is found is appended to what was written
+abbrev pub WritesFound : List (List ℕ) → Bool → (file : List ℕ) → (old new : Option (List ℕ))
+    → Type 0
+WritesFound names keeps file old new =
+    (t : List JobParts) × IsFound keeps file t × WritesDump names t old new
+
+-- a front of it is, where the writer fails
+abbrev pub WritesFoundPart : List (List ℕ) → Bool → (file : List ℕ) → (old new : Option (List ℕ))
+    → Type 0
+WritesFoundPart names keeps file old new =
+    (t : List JobParts) × IsFound keeps file t × WritesDumpPart names t old new
+
+-- what a fault says: what the file holds in the place of a table, or that a table is found of which
+-- this is the fault
+abbrev pub SaysOf : List (List ℕ) → Bool → (file : List ℕ) → DiskDumpFault → Type 0
+SaysOf names keeps file (Open cause) = IsTrue keeps → Says cause file
+SaysOf names keeps file (Dump fault) =
+    (t : List JobParts) × IsFound keeps file t × FaultOf names t fault
+
+-- what came of the opening
+abbrev pub opening_of : {T : Type 0} → Result T DiskDumpFault → Result (Unit {0}) OpenCause
+opening_of (Ok value) = Ok tt
+opening_of (Err (Open cause)) = Err cause
+opening_of (Err (Dump fault)) = Ok tt

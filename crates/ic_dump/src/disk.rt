@@ -4,7 +4,7 @@ ghost use Rattle.std.specs.Prelude.{◌≡◌, ◌≢◌, IfErr, OnOk};
 ghost use Rattle.std.specs.Io.KnownBytes.{Keeps};
 ghost use Rattle.ic_frames.specs.Faults.{CountsOpen};
 ghost use Rattle.ic_frames.specs.Opening.{LeavesAsFound};
-ghost use Rattle.ic_dump.specs.DiskDumping.{SaysOf, WritesFound, WritesFoundPart, opening_of};
+ghost use Rattle.ic_dump.specs.Dumping.{SaysOf, WritesFound, WritesFoundPart, opening_of};
 
 use crate::dumping::dump_jobs;
 use crate::fault::{DiskDumpFault, DumpFault};

@@ -1,12 +1,12 @@
 //! What is proved of the definitions alone: each law is the contract of a function that does nothing, or calls the laws
 //! that it comes of.
 
-ghost use Rattle.std.specs.Prelude.{◌≡◌, ◌↔◌, ◌⊎◌, ◌≤◌, ℕ, List, [], ◌∷◌, Contains, None, Option, Some, Ok, Err, length, map, true, false};
+ghost use Rattle.std.specs.Prelude.{◌≡◌, ◌↔◌, ◌⊎◌, ◌≤◌, ℕ, List, [], ◌∷◌, ◌++◌, Contains, None, Option, Some, Ok, Err, length, map, true, false};
 ghost use Rattle.std.specs.Io.KnownBytes.{Appends};
 ghost use Rattle.std.specs.List.{flat_map, fold};
 ghost use Rattle.ic_term.specs.Configuration.{Configuration};
 ghost use Rattle.ic_jobs.specs.Job.{JobParts, IsJob};
-ghost use Rattle.ic_jobs.specs.Table.{IsTable};
+ghost use Rattle.ic_jobs.specs.Table.{IsTable, job_names};
 ghost use Rattle.ic_commands.specs.declared.line.Line.TheVariants.{Command as Asks};
 ghost use Rattle.ic_commands.specs.LineText.{ReadsLine};
 ghost use Rattle.ic_text.specs.declared.limits.TheConstants.{MAX_TEXT};
@@ -15,16 +15,11 @@ ghost use Rattle.ic_slots.specs.Held.{IsHeld, the_table};
 ghost use Rattle.ic_dump.specs.declared.fault.DiskDumpFault.TheVariants.{Dump};
 ghost use Rattle.ic_dump.specs.declared.fault.DumpFault.{DumpFault};
 ghost use Rattle.ic_dump.specs.declared.fault.DumpFault.TheVariants.{NoJob, TooLong};
-ghost use Rattle.ic_dump.specs.DiskDumping.{SaysOf, WritesFound, WritesFoundPart};
-ghost use Rattle.ic_dump.specs.Alike.{HasFreeNamesOfTexts, IsFree, Submits};
+ghost use Rattle.ic_dump.specs.Dumping.{SaysOf, WritesFound, WritesFoundPart, all_dump_faults, chosen, dump_fault_number, dumped, first_missing, is_chosen, AreHad};
+ghost use Rattle.ic_dump.specs.Submitting.{HasFreeNamesOfTexts, IsFree, Submits, accepted, begun_again, read_again, submit_of, table_after};
 ghost use Rattle.ic_lines.specs.Lines.{lines};
 ghost use Rattle.ic_lines.specs.Serving.{IsServed};
-ghost use Rattle.ic_dump.specs.Dumping.{all_dump_faults, chosen, dump_fault_number, dumped, first_missing, is_chosen};
-ghost use Rattle.ic_dump.specs.Filling.{accepted, begun_again, read_again, submit_of, table_after};
-ghost use Rattle.ic_dump.specs.Missing.{AreHad, IsFirstMissing};
-ghost use Rattle.ic_dump.specs.Told.{has_names_of_texts, told};
-ghost use Rattle.ic_dump.specs.Telling.{job_line, told_system};
-ghost use Rattle.ic_dump.specs.Writing.{system_of};
+ghost use Rattle.ic_dump.specs.Telling.{has_names_of_texts, told, job_line, told_system, system_of};
 
 /// The line of a job, where it isn't longer than a line may be, is read as the submit of a job of its name and budget.
 /// The rules are written as the job's rules are, and the configuration as the job's own is, except for the names of
@@ -121,11 +116,12 @@ pub fn jobs_are_asked_for_by_their_names()
         is_chosen names j ≡ false → chosen names (j ∷ t) ≡ chosen names t }
 {}
 
-/// A name is refused exactly where it is the first of those given that no job of the table has: it is one of them, and
-/// each name before it is a job's. None is refused exactly where each is a job's.
+/// The name that is refused is the first of those given that no job of the table has: each name before it is a job's. None is
+/// refused exactly where each is a job's.
 pub fn the_first_missing_name_is_told()
-    ensures first { (names : List (List ℕ)) (t : List JobParts) (name : List ℕ) →
-        (first_missing names t ≡ Some name) ↔ IsFirstMissing names t name }
+    ensures first { (names before after : List (List ℕ)) (name : List ℕ) (t : List JobParts) →
+        names ≡ before ++ name ∷ after → AreHad t before → ¬ Contains (job_names t) name →
+        first_missing names t ≡ Some name }
     ensures none { (names : List (List ℕ)) (t : List JobParts) →
         (first_missing names t ≡ None) ↔ AreHad t names }
 {}

@@ -4,7 +4,7 @@ ghost use Rattle.std.specs.Prelude.{◌≡◌, nat_le, IfOk};
 ghost use Rattle.std.specs.List.{list_all};
 ghost use Rattle.ic_flat.specs.Words.{word_names};
 ghost use Rattle.ic_naming.specs.Naming.{renumbered};
-ghost use Rattle.ic_dump.specs.Told.{has_names_of_texts};
+ghost use Rattle.ic_dump.specs.Telling.{has_names_of_texts};
 
 use ic_flat::{Flat, Word};
 use ic_naming::renumbered_words;

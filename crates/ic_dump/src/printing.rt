@@ -7,7 +7,7 @@ ghost use Rattle.ic_term.specs.Tree.{agent, trees_of};
 ghost use Rattle.ic_term.specs.Configuration.{Configuration};
 ghost use Rattle.ic_rules.specs.RuleSet.{IsRuleOver};
 ghost use Rattle.ic_text.specs.Text.{printed};
-ghost use Rattle.ic_dump.specs.Writing.{rules_text, system_text};
+ghost use Rattle.ic_dump.specs.Telling.{rules_text, system_text};
 ghost use Rattle.ic_dump.specs.inner.Printing.{rule_text, rules_list_text};
 
 use ic_rules::{Rule, RuleSet};

@@ -4,8 +4,7 @@ ghost use Rattle.std.specs.Prelude.{◌≡◌, ◌++◌, IfOk, OnOk, IsTrue};
 ghost use Rattle.ic_term.specs.Symbol.{is_over};
 ghost use Rattle.ic_text.specs.Text.{printed};
 ghost use Rattle.ic_commands.specs.LinePlain.{budget_text};
-ghost use Rattle.ic_dump.specs.Told.{told};
-ghost use Rattle.ic_dump.specs.Telling.{job_line};
+ghost use Rattle.ic_dump.specs.Telling.{told, job_line};
 
 use crate::naming::{has_names_of_texts, renumbered};
 use crate::printing::put_rules;

@@ -5,8 +5,7 @@ ghost use Rattle.std.specs.List.{AllByRecursion, flat_map};
 ghost use Rattle.ic_jobs.specs.Job.{JobParts};
 ghost use Rattle.ic_jobs.specs.Table.{job_names};
 ghost use Rattle.ic_text.specs.declared.limits.TheConstants.{MAX_TEXT};
-ghost use Rattle.ic_dump.specs.Dumping.{chosen, dumped};
-ghost use Rattle.ic_dump.specs.Missing.{AreHad};
+ghost use Rattle.ic_dump.specs.Dumping.{chosen, dumped, AreHad};
 ghost use Rattle.ic_dump.specs.Telling.{job_line};
 ghost use Rattle.ic_dump.specs.declared.fault.DumpFault.TheVariants.{NoJob, TooLong};
 

@@ -7,15 +7,14 @@ ghost use Rattle.ic_rules.specs.System.{SystemParts};
 ghost use Rattle.ic_text.specs.Name.{is_name, name_text};
 ghost use Rattle.ic_text.specs.declared.limits.TheConstants.{MAX_NAME};
 ghost use Rattle.ic_expand.specs.Generic.{agent_text, copies};
-ghost use Rattle.ic_expand.specs.Names.{IsRenaming};
+ghost use Rattle.ic_expand.specs.Reading.{IsRenaming, is_known, noted, pairs_of};
 ghost use Rattle.ic_expand.specs.Pieces.{pieces};
-ghost use Rattle.ic_expand.specs.Reading.{is_known, noted, pairs_of};
 ghost use Rattle.ic_jobs.specs.Job.{JobParts};
 ghost use Rattle.ic_jobs.specs.declared.command.Command.TheVariants as command;
 ghost use Rattle.ic_commands.specs.LineText.{ReadsLine};
 ghost use Rattle.ic_commands.specs.declared.line.Line.TheVariants.{Command as Asks};
-ghost use Rattle.ic_dump.specs.Alike.{IsFree, Submits};
-ghost use Rattle.ic_dump.specs.Writing.{system_of};
+ghost use Rattle.ic_dump.specs.Submitting.{IsFree, Submits};
+ghost use Rattle.ic_dump.specs.Telling.{system_of};
 
 /// A long name isn't written as a name that stands in the text already, and what a name is written as would be written so
 /// again.

@@ -4,7 +4,7 @@ use Rattle.ic_term.specs.Symbol.{Symbol}
 use Rattle.ic_rules.specs.Rule.{Rule}
 use Rattle.ic_text.specs.SystemSource.{rule_words, rules_words}
 use Rattle.ic_text.specs.Text.{text_of}
-use Rattle.ic_dump.specs.Writing.{rule_of}
+use Rattle.ic_dump.specs.Telling.{rule_of}
 
 -- the text of a rule
 abbrev pub rule_text : List Symbol → Rule → List ℕ

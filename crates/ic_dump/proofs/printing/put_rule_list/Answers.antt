@@ -1,7 +1,7 @@
 use Rattle.std.proofs.Common.{map, refl}
 use Rattle.ic_rules.specs.RuleSet.{IsRuleOver}
 use Rattle.ic_text.specs.SystemSource.{rule_words}
-use Rattle.ic_dump.specs.Writing.{rule_of}
+use Rattle.ic_dump.specs.Telling.{rule_of}
 use Rattle.ic_text.specs.lemmas.Separated.{between_rules, Begun, begun_first, begun_further, next_listed}
 use Rattle.ic_dump.proofs.PrintLemmas.{next_each}
 use Rattle.ic_dump.proofs.printing.put_rule_list.Goals as goal

@@ -4,7 +4,7 @@ use Rattle.ic_rules.specs.RuleSet.{IsRuleOver}
 use Rattle.ic_text.specs.SystemSource.{rule_words}
 use Rattle.ic_text.specs.Text.{text_of}
 use Rattle.ic_text.specs.lemmas.Separated.{between_rules, separated_from}
-use Rattle.ic_dump.specs.Writing.{rule_of}
+use Rattle.ic_dump.specs.Telling.{rule_of}
 use Rattle.ic_dump.specs.inner.Printing.{rules_list_text}
 use Rattle.ic_dump.proofs.printing.put_rule_list.Given as goal
 

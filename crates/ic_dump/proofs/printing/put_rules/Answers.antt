@@ -1,5 +1,5 @@
 use Rattle.std.proofs.Common.{◌++◌, map, ◌∙◌}
-use Rattle.ic_dump.specs.Writing.{rule_of}
+use Rattle.ic_dump.specs.Telling.{rule_of}
 use Rattle.ic_dump.specs.inner.Printing.{rules_list_text}
 use Rattle.ic_dump.proofs.PrintLemmas.{in_braces}
 use Rattle.ic_dump.proofs.RuleLemmas.{each_over}

@@ -21,7 +21,7 @@ none_long (k ∷ ks) all = ap (λ b. cond b (Some k) (find is_too_long ks)) (le-
 pub returns-clause-no_job : goal.returns-clause-no_job
 returns-clause-no_job c = λ names before after name t parted had missing.
     let first : first_missing names t ≡ Some name =
-    (c.the_first_missing_name_is_told.ensures.first names t name).1 (record { before = before; after = after; parted = parted; had = had; missing = missing }) in
+    c.the_first_missing_name_is_told.ensures.first names before after name t parted had missing in
     ap (λ m. unless_missing m (unless_long (find is_too_long (chosen names t)) (Ok (lines_of (chosen names t))))) first
 
 pub returns-clause-too_long : goal.returns-clause-too_long

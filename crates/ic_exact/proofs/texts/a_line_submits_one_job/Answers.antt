@@ -1,6 +1,6 @@
 use Rattle.std.proofs.Common.{◌≡◌, ◌≤◌, sym, ◌∙◌, ap, arith}
 use Rattle.ic_term.specs.Configuration.{configuration_names, occurrences}
-use Rattle.ic_dump.specs.Writing.{system_of}
+use Rattle.ic_dump.specs.Telling.{system_of}
 use Rattle.ic_exact.proofs.NameLemmas.{occurs_so}
 use Rattle.ic_exact.proofs.texts.a_line_submits_one_job.Goals as goal
 
