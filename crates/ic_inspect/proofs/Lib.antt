@@ -1,6 +1,4 @@
 pub mod FieldLemmas
-pub mod HaltLemmas
-pub mod StuckLemmas
 pub mod HeldLemmas
 pub mod SlotLemmas
 pub mod ReadLemmas

@@ -1,5 +1,5 @@
 -- A table that is read twice stood in the file at a moment between.
-use Rattle.std.proofs.Common.{◌≡◌, ◌↔◌, ◌⊎◌, inl, inr, ⊎_elim, ℕ, zero, suc, ◌+◌, ◌-◌, ◌<◌, ◌≤◌, Bool, true, false, List, length, drop, get_or, refl, sym, ap, subst, ◌∙◌, arith}
+use Rattle.std.proofs.Common.{◌≡◌, ◌↔◌, ◌⊎◌, inl, inr, ⊎_elim, ℕ, zero, suc, ◌+◌, ◌-◌, ◌<◌, ◌≤◌, Bool, true, false, List, length, drop, get_or, refl, sym, ap, subst, ◌∙◌, arith, Result, Ok, Err, OnOk}
 use Rattle.std.specs.Prelude.{slice_index}
 use Rattle.std.proofs.lemmas.Bool.{false≢true}
 use Rattle.std.proofs.lemmas.List.{ext_get_or, get_or-take, get_or-drop}
@@ -13,7 +13,8 @@ use Rattle.ic_frames.specs.Fields.{number, size, body, is_open, is_whole}
 use Rattle.ic_frames.specs.Held.{IsNewest, body_held, the_body}
 use Rattle.ic_frames.specs.Places.{place, other}
 use Rattle.ic_slots.specs.Held.{IsHeld, the_table}
-use Rattle.ic_inspect.specs.Moments.{IsSameSlot, OpensAbove, IsServerStep, IsServed, IsHeadOf, IsBodyAmid, IsReadTwice}
+use Rattle.ic_inspect.specs.Moments.{IsSameSlot, OpensAbove, IsServerStep, IsServed}
+use Rattle.ic_inspect.specs.inner.Twice.{IsHeadOf, IsBodyAmid, IsReadTwice, IsReadTwiceBetween}
 
 -- ---- the same slot
 same_again : (s : Slot) (a b c : List ℕ) → IsSameSlot s a b → IsSameSlot s b c → IsSameSlot s a c
@@ -212,3 +213,12 @@ module _ (opened : (at : ℕ) (file : List ℕ) → (is_open at file ≡ true) �
     table_stood only r held =
         let found = only read held.1.body held.1.held in
         by_slot r found.0 found.1 found.2 (subst (λ b. IsFormOf t b) (sym found.3) held.1.form)
+
+  pub stood_between : {T E : Type 0} (newest_is : (s : Slot) (file : List ℕ) (t : List JobParts) → IsNewest s file → is_whole (place s) file ≡ true → IsTable t → IsFormOf t (body (place s) file) → IsHeld (the_table t) file)
+      → ((file kept : List ℕ) → body_held file ≡ the_body kept → (slot : Slot) × IsNewest slot file × (is_whole (place slot) file ≡ true) × (body (place slot) file ≡ kept))
+      → (r : Result T E) (at : ℕ → List ℕ) (from until : ℕ) → IsServed at → (read : List ℕ) (t : List JobParts) → IsHeld (the_table t) read → OnOk r (IsReadTwiceBetween at from until read)
+      → OnOk r ((m : ℕ) × (from ≤ m) × (m ≤ until) × IsHeld (the_table t) (at m))
+  stood_between newest_is only (Ok v) at from until served read t held twice =
+      let there = table_stood newest_is at served read t held.0 only twice.0 held in
+      (there.0, omega (arith, twice.1, there.1), omega (arith, twice.2, there.2), there.3)
+  stood_between newest_is only (Err e) at from until served read t held twice = tt

@@ -5,7 +5,8 @@ use Rattle.std.proofs.lemmas.List.{length-take-le, take_all, take-append-le}
 use Rattle.std.proofs.lemmas.Bool.{cases_lt}
 use Rattle.std.specs.Io.KnownBytes.{Consumes, IsAtEnd}
 use Rattle.ic_frames.specs.declared.frame.TheConstants.{HEAD}
-use Rattle.ic_inspect.specs.Slots.{HasHead, HasOtherHead, IsFrontOf, IsSlotOf, TakesAtMost, body_room, is_one_file}
+use Rattle.ic_inspect.specs.Slots.{HasHead, HasOtherHead, IsSlotOf, TakesAtMost, body_room, is_one_file}
+use Rattle.ic_inspect.specs.inner.Fronts.{IsFrontOf}
 use Rattle.ic_inspect.proofs.SlotLemmas.{no_room, room_of_head, take-append-add}
 
 -- these bytes are taken, which are all there are or as many as are read

@@ -10,9 +10,9 @@ use Rattle.ic_frames.specs.Fields.{number, size, is_open, is_whole}
 use Rattle.ic_frames.specs.Places.{place}
 use Rattle.ic_inspect.specs.declared.seen.Looked.{Looked}
 use Rattle.ic_inspect.specs.declared.seen.Seen.{Seen}
-use Rattle.ic_inspect.specs.Inspecting.{IsLookedAt}
-use Rattle.ic_inspect.specs.Moments.{AreHeadsRead, AreSlotsRead, IsBodyAmid, IsBodyRead, IsHeadOf, IsHeadRead, IsReadTwiceBetween}
-use Rattle.ic_inspect.specs.Seeing.{IsSeen}
+use Rattle.ic_inspect.specs.Moments.{AreHeadsRead, AreSlotsRead, IsBodyRead, IsHeadRead}
+use Rattle.ic_inspect.specs.inner.Twice.{IsBodyAmid, IsHeadOf, IsReadTwiceBetween}
+use Rattle.ic_inspect.specs.Seeing.{IsLookedAt, IsSeen}
 use Rattle.ic_inspect.specs.Slots.{HasHead, IsSlotOf, body_room, file_of, is_one_file, slot_read}
 use Rattle.ic_inspect.proofs.MomentLemmas.{byte_of_body}
 use Rattle.ic_inspect.proofs.SlotLemmas.{SameAt, number_front, open_front, room_few, room_of_front, same_drop, same_first, same_read, same_second, same_seen, same_sym, same_trans, size_front}

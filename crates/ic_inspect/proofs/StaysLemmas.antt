@@ -8,7 +8,7 @@ use Rattle.ic_frames.specs.declared.slot.TheConstants.{SECOND_AT}
 use Rattle.ic_frames.specs.Fields.{is_whole, size}
 use Rattle.ic_frames.specs.Held.{IsNewest}
 use Rattle.ic_frames.specs.Places.{place, other}
-use Rattle.ic_inspect.specs.Moments.{AreSlotsRead, IsBodyAmid, IsBodyRead, IsHeadOf, IsHeadRead, IsReadTwice, IsSameSlot, IsServed}
+use Rattle.ic_inspect.specs.Moments.{AreSlotsRead, IsBodyRead, IsHeadRead, IsSameSlot, IsServed}
 use Rattle.ic_inspect.specs.Slots.{HaveChanged, body_room, slot_read}
 use Rattle.ic_inspect.proofs.MomentLemmas.{byte_of_body}
 use Rattle.ic_inspect.proofs.ReadingLemmas.{is_one}
@@ -20,9 +20,6 @@ same_slot slot file = record { opened = refl; number_is = refl; size_is = refl; 
 pub stays_served : (slot : Slot) (file : List ℕ) → IsNewest slot file → IsServed (λ moment. file)
 stays_served slot file is i = record { newest = slot; is_newest = is; stays = same_slot slot file; beside = inr (inl (same_slot (other slot) file)) }
 
-head_of : (slot : Slot) (file : List ℕ) → IsHeadOf slot file file
-head_of slot file = record { opened = refl; number_is = refl; size_is = refl }
-
 same_head : (all : List ℕ) → take HEAD (slot_read all) ≡ take HEAD all
 same_head all = take-take HEAD (HEAD + body_room all) all (omega arith)
 
@@ -32,26 +29,6 @@ stays_unchanged file (inr (inl other)) = other (same_head (drop SECOND_AT file))
 stays_unchanged file (inr (inr apart)) = let never : true ≡ false = sym (is_one file) ∙ apart in cc
 
 module _ (whole : (at : ℕ) (file : List ℕ) → (is_whole at file ≡ true) ↔ ((size at file ≤ MAX_BODY) × (at + HEAD + size at file ≤ length file))) where
-  body_of : (slot : Slot) (file : List ℕ) (from until : ℕ) → from ≤ until → IsBodyAmid slot (λ moment. file) from until file
-  body_of slot file from until later w k less =
-      let all = (whole (place slot) file).0 w in
-      (from, omega arith, later, record { within = omega (arith, all.1, less); same = refl })
-
-  pub stays_twice : (file : List ℕ) → IsReadTwice (λ moment. file) file
-  stays_twice file = record {
-    first = 0;
-    second = 0;
-    first_again = 0;
-    second_again = 0;
-    in_order = (omega arith, omega arith, omega arith);
-    first_head = head_of First file;
-    second_head = head_of Second file;
-    first_head_again = head_of First file;
-    second_head_again = head_of Second file;
-    first_body = body_of First file 0 0 (omega arith);
-    second_body = body_of Second file 0 0 (omega arith);
-  }
-
   -- the bytes of a slot, from its place on
   head_read : (slot : Slot) (bytes file : List ℕ) → SameAt 0 (place slot) bytes file → IsHeadRead slot bytes file
   head_read slot bytes file same = record { opened = same.opened; number_is = same.number_is; size_is = same.size_is }

@@ -1,8 +1,5 @@
--- What a reader of the public contracts must believe.
+-- What a reader of the public contracts must believe, and `inner`, which is for private functions and proofs.
 pub mod Seeing
-pub mod Held
-pub mod Halts
-pub mod Pairs
 pub mod Slots
-pub mod Inspecting
 pub mod Moments
+pub mod inner

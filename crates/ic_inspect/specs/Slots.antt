@@ -27,11 +27,6 @@ abbrev pub is_one_file : (first second : List ℕ) → Bool
 is_one_file first [] = true
 is_one_file first (b ∷ bs) = nat_le (HEAD + body_room first) (length first)
 
--- these are the first so many bytes that a reader has, where it tells them
-abbrev pub IsFrontOf : ℕ → List ℕ → Option (List ℕ) → Type 0
-IsFrontOf n bytes None = Unit {0}
-IsFrontOf n bytes (Some all) = bytes ≡ take n all
-
 -- no more than so many bytes are taken from a reader
 abbrev pub TakesAtMost : ℕ → Option (List ℕ) → Option (List ℕ) → Type 0
 TakesAtMost n old new = (bytes : List ℕ) × Consumes old new bytes × (length bytes ≤ n)

@@ -1,7 +1,7 @@
 //! Which slot is the newest open one.
 
 ghost use Rattle.std.specs.Prelude.{◌≡◌};
-ghost use Rattle.ic_inspect.specs.Held.{open_number, newer, newest_of};
+ghost use Rattle.ic_inspect.specs.inner.Held.{open_number, newer, newest_of};
 
 use crate::seen::Seen;
 

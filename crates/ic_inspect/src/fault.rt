@@ -19,7 +19,7 @@ pub enum InspectFault {
 }
 
 impl InspectFault {
-    ghost use Rattle.ic_inspect.specs.Inspecting.{inspect_fault_number};
+    ghost use Rattle.ic_inspect.specs.Seeing.{inspect_fault_number};
 
     /// The lasting number of the fault.
     pub fn number(self) -> u8

@@ -1,7 +1,4 @@
-//! Why no further round of a halted job can be made.
-
-ghost use Rattle.std.specs.Prelude.{◌≡◌, IfOk};
-ghost use Rattle.ic_inspect.specs.Halts.{blocked_by, halt_of, refused_by};
+//! Why no further round of a halted job can be made. What is told of it is tried.
 
 use ic_flat_round::{fits, works};
 use ic_flights::MAX_ROUNDS;
@@ -21,9 +18,7 @@ pub enum Halt {
 }
 
 /// Why no further round of a job can be made, if it is halted and none can.
-pub fn halt_of(alloc: Global, job: &Job) -> Result<Option<Halt>, AllocError>
-    ensures { IfOk result (λ halt. halt ≡ halt_of job.now) }
-{
+pub fn halt_of(alloc: Global, job: &Job) -> Result<Option<Halt>, AllocError> {
     match job.state() {
         State::Halted => blocked_by(alloc, job),
         State::Running | State::Paused | State::Done | State::Spent => Ok(None),
@@ -31,9 +26,7 @@ pub fn halt_of(alloc: Global, job: &Job) -> Result<Option<Halt>, AllocError>
 }
 
 /// Why no further round of a job can be made, if none can.
-fn blocked_by(alloc: Global, job: &Job) -> Result<Option<Halt>, AllocError>
-    ensures { IfOk result (λ halt. halt ≡ blocked_by job.now) }
-{
+fn blocked_by(alloc: Global, job: &Job) -> Result<Option<Halt>, AllocError> {
     if job.rounds() == MAX_ROUNDS {
         return Ok(Some(Halt::Rounds));
     }
@@ -41,9 +34,7 @@ fn blocked_by(alloc: Global, job: &Job) -> Result<Option<Halt>, AllocError>
 }
 
 /// Why a round refuses a job's configuration, if it does.
-fn refused_by(alloc: Global, job: &Job) -> Result<Option<Halt>, AllocError>
-    ensures { IfOk result (λ halt. halt ≡ refused_by job.now.rules.rules job.now.config) }
-{
+fn refused_by(alloc: Global, job: &Job) -> Result<Option<Halt>, AllocError> {
     if fits(job.rules(), job.config()) {
         return Ok(None);
     }

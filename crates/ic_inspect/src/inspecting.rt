@@ -3,7 +3,7 @@
 ghost use Rattle.std.specs.Prelude.{◌≡◌, ◌≢◌, ◌⊎◌, List, ℕ, [], true, IfOk, IfErr, OnOk};
 ghost use Rattle.std.specs.Io.KnownBytes.{Appends, Keeps};
 ghost use Rattle.ic_output.specs.Output.{AppendsFront};
-ghost use Rattle.ic_inspect.specs.Inspecting.{IsLookedAt};
+ghost use Rattle.ic_inspect.specs.Seeing.{IsLookedAt};
 ghost use Rattle.ic_frames.specs.declared.frame.TheConstants.{HEAD};
 ghost use Rattle.ic_inspect.specs.Slots.{HasHead, HaveChanged, TakesAtMost, file_of, is_one_file};
 

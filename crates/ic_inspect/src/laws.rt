@@ -1,41 +1,25 @@
 //! Laws of the definitions that the contracts of this crate cite.
 
-ghost use Rattle.std.specs.Prelude.{◌≡◌, ◌≢◌, IsTrue, ◌+◌, ◌<◌, ◌≤◌, ℕ, List, [], ◌∷◌, Option, None, Some, Contains, IsSome, IfOk, OnOk, drop, length, map, false, true};
-ghost use Rattle.std.specs.List.{AllByRecursion, find};
-ghost use Rattle.ic_term.specs.Configuration.{Configuration, configuration_nodes};
-ghost use Rattle.ic_term.specs.Tree.{Pair};
-ghost use Rattle.ic_rules.specs.Rule.{Rule};
-ghost use Rattle.ic_round.specs.Firing.{fired, rule_of_sides};
-ghost use Rattle.ic_term.specs.declared.limits.TheConstants.{MAX_NEXT, MAX_NODES};
-ghost use Rattle.ic_flights.specs.declared.limits.TheConstants.{MAX_ROUNDS};
-ghost use Rattle.ic_jobs.specs.declared.state.State.TheVariants.{Done, Halted};
+ghost use Rattle.std.specs.Prelude.{◌≡◌, ◌+◌, ◌<◌, ◌≤◌, ℕ, List, [], ◌∷◌, Option, Some, Contains, IfOk, OnOk, drop, length, map, false, true};
 ghost use Rattle.ic_disk.specs.Images.{Torn};
-ghost use Rattle.ic_codec.specs.Tables.{IsFormOf};
-ghost use Rattle.ic_jobs.specs.Job.{IsJob, JobParts, can_move};
-ghost use Rattle.ic_streams.specs.Stuck.{is_of_agents, pair_text};
-ghost use Rattle.ic_jobs.specs.Table.{IsTable};
+ghost use Rattle.ic_jobs.specs.Job.{JobParts};
 ghost use Rattle.ic_frames.specs.declared.frame.TheConstants.{HEAD, MAX_BODY};
 ghost use Rattle.ic_frames.specs.declared.slot.Slot.{Slot};
-ghost use Rattle.ic_frames.specs.declared.slot.Slot.TheVariants.{First, Second};
+ghost use Rattle.ic_frames.specs.declared.slot.Slot.TheVariants.{First};
 ghost use Rattle.ic_frames.specs.declared.slot.TheConstants.{SECOND_AT};
-ghost use Rattle.ic_frames.specs.Fields.{number, body, is_open, is_whole, IsMade};
+ghost use Rattle.ic_frames.specs.Fields.{number, body, is_open, IsMade};
 ghost use Rattle.ic_frames.specs.Frames.{content_of, target_of, number_of, is_closed, is_staged, KeepsModel};
 ghost use Rattle.ic_frames.specs.Held.{IsClosedIn, IsNewest};
 ghost use Rattle.ic_frames.specs.Opened.{IsOnNewest};
 ghost use Rattle.ic_frames.specs.Places.{place, other};
 ghost use Rattle.ic_frames.specs.Staged.{IsStaged};
-ghost use Rattle.ic_slots.specs.Held.{Held, IsHeld, the_table};
+ghost use Rattle.ic_slots.specs.Held.{IsHeld, the_table};
 ghost use Rattle.ic_inspect.specs.declared.fault.InspectFault.{InspectFault};
 ghost use Rattle.ic_inspect.specs.declared.seen.Body.TheVariants.{TooLong, CutShort};
 ghost use Rattle.ic_inspect.specs.declared.seen.Looked.{Looked};
 ghost use Rattle.ic_inspect.specs.declared.seen.Seen.{Seen};
-ghost use Rattle.ic_inspect.specs.Seeing.{IsSeen};
-ghost use Rattle.ic_inspect.specs.declared.halts.Halt.TheVariants as halt;
-ghost use Rattle.ic_inspect.specs.Halts.{halt_of};
-ghost use Rattle.ic_inspect.specs.Pairs.{active_pairs, stuck_of};
-ghost use Rattle.ic_inspect.specs.Held.{as_newest, held_of, newest_of};
-ghost use Rattle.ic_inspect.specs.Moments.{AreHeadsRead, AreSlotsRead, IsServed, IsServerStep, IsReadTwice, IsReadTwiceBetween, IsWholeNewest};
-ghost use Rattle.ic_inspect.specs.Inspecting.{IsLookedAt, all_inspect_faults, inspect_fault_number};
+ghost use Rattle.ic_inspect.specs.Moments.{AreHeadsRead, AreSlotsRead, IsServed, IsServerStep, IsWholeNewest};
+ghost use Rattle.ic_inspect.specs.Seeing.{IsLookedAt, IsSeen, all_inspect_faults, inspect_fault_number};
 ghost use Rattle.ic_inspect.specs.Slots.{file_of, is_one_file, slot_read, HaveChanged};
 
 use crate::fault::InspectFault;
@@ -47,76 +31,6 @@ use ic_frames::laws::{one_body_is_kept, the_newest_slot_is_held};
 use ic_frames::{Frames, KeepFault};
 use std::alloc::Global;
 use std::io::Read;
-
-/// What is told as held is what the file holds: the table that an opening of the disk finds, or why it finds none.
-pub fn what_is_told_as_held_is_held()
-    ensures held { (file : List ℕ) (first second : Option Seen) → IsSeen First first file
-        → IsSeen Second second file → IsHeld (held_of first second) file }
-    ensures nothing_else { (file : List ℕ) (first second : Option Seen) (held : Held)
-        → IsSeen First first file → IsSeen Second second file → IsHeld held file
-        → held ≡ held_of first second }
-{
-    ic_frames::laws::a_slot_is_open_or_whole();
-    the_newest_slot_is_held();
-    ic_slots::laws::the_newest_table_is_held();
-    ic_slots::laws::one_is_held();
-}
-
-/// Where a table is held, the slot that is the newest of those that are seen is the newest of the file, and has a form of
-/// that table.
-pub fn a_table_is_told_of_its_slot()
-    ensures { (file : List ℕ) (first second : Option Seen) (t : List JobParts)
-        → IsSeen First first file → IsSeen Second second file
-        → held_of first second ≡ the_table t
-        → (slot : Slot) × (newest_of first second ≡ as_newest slot) × IsNewest slot file
-        × (is_whole (place slot) file ≡ true) × IsTable t × IsFormOf t (body (place slot) file) }
-{
-    ic_frames::laws::a_slot_is_open_or_whole();
-}
-
-/// Of a halted job it is told why no further round of it can be made: all rounds are made, or the nodes of what it fires
-/// to would be too many, or else its names. Where the round can be made, and of a job in another state, nothing is told.
-pub fn halts_are_told_with_their_cause()
-    ensures rounds { (j : JobParts) → j.state ≡ Halted → j.rounds ≡ MAX_ROUNDS
-        → halt_of j ≡ Some halt.Rounds }
-    ensures overgrown { (j : JobParts) → j.state ≡ Halted → j.rounds < MAX_ROUNDS
-        → MAX_NODES < configuration_nodes (fired j.rules.rules j.config)
-        → halt_of j ≡ Some halt.Overgrown }
-    ensures names { (j : JobParts) → j.state ≡ Halted → j.rounds < MAX_ROUNDS
-        → configuration_nodes (fired j.rules.rules j.config) ≤ MAX_NODES
-        → MAX_NEXT < (fired j.rules.rules j.config).next
-        → halt_of j ≡ Some halt.Names }
-    ensures can_move { (j : JobParts) → IsTrue (can_move j) → halt_of j ≡ None }
-    ensures others { (j : JobParts) → j.state ≢ Halted → halt_of j ≡ None }
-{}
-
-/// Of a done job the first equation of two agents is told. It is stuck: no rule has its symbols, so what it waits for
-/// never comes. Of a done job without one, and of a job in another state, nothing is told.
-pub fn stuck_pairs_are_told()
-    ensures no_rule { (j : JobParts) (p : Pair) → IsJob j → j.state ≡ Done
-        → find is_of_agents j.config.equations ≡ Some p
-        → rule_of_sides j.rules.rules p.left p.right ≡ None }
-    ensures told { (j : JobParts) (p : Pair) → j.state ≡ Done
-        → find is_of_agents j.config.equations ≡ Some p
-        → stuck_of j ≡ Some (pair_text j.rules.symbols p) }
-    ensures none { (j : JobParts) → j.state ≡ Done
-        → AllByRecursion (λ p. is_of_agents p ≡ false) j.config.equations → stuck_of j ≡ None }
-    ensures others { (j : JobParts) → j.state ≢ Done → stuck_of j ≡ None }
-{
-    ic_by_rounds::laws::stuck_pairs_have_no_rule();
-}
-
-/// The active pairs of a job are its equations that a rule fires, each counted once.
-pub fn pairs_with_a_rule_are_counted()
-    ensures none { (rs : List Rule) (c : Configuration) → c.equations ≡ []
-        → active_pairs rs c ≡ 0 }
-    ensures active { (rs : List Rule) (c d : Configuration) (e : Pair)
-        → c.equations ≡ e ∷ d.equations → IsSome (rule_of_sides rs e.left e.right)
-        → active_pairs rs c ≡ active_pairs rs d + 1 }
-    ensures inert { (rs : List Rule) (c d : Configuration) (e : Pair)
-        → c.equations ≡ e ∷ d.equations → ¬ IsSome (rule_of_sides rs e.left e.right)
-        → active_pairs rs c ≡ active_pairs rs d }
-{}
 
 /// Files by hand, and what is seen of them. The first one has an open gate, the number 258, the length 3 and two bytes of a
 /// body. The gate of the other one is closed, and its body would be longer than a body may be. Both end within their first
@@ -141,24 +55,11 @@ pub fn the_slots_are_seen_as_the_file()
     ic_frames::laws::a_slot_is_open_or_whole();
 }
 
-/// A server may write the file meanwhile. Where bytes that were read twice hold a table, this table stood in the file
-/// at a moment of the reading. Where it is told that none is held, the file may hold one all the same.
-pub fn a_table_that_is_shown_stood()
-    ensures { (at : ℕ → List ℕ) (read : List ℕ) (t : List JobParts) → IsServed at
-        → (twice : IsReadTwice at read) → IsHeld (the_table t) read
-        → (m : ℕ) × (twice.first ≤ m) × (m ≤ twice.second_again) × IsHeld (the_table t) (at m) }
-{
-    ic_frames::laws::a_slot_is_open_or_whole();
-    the_newest_slot_is_held();
-    ic_slots::laws::the_newest_table_is_held();
-}
-
-/// A file that stays as it is, is read as it is, at any moment and twice, and isn't told as changed. A server that does
-/// nothing leaves it so.
+/// A file that stays as it is, is read as it is, at any moment, and isn't told as changed. A server that does nothing leaves
+/// it so.
 pub fn a_file_that_stays_is_read_as_it_is()
     ensures read { (file : List ℕ) (from until : ℕ) → from ≤ until
         → AreSlotsRead (λ moment. file) from until file (drop SECOND_AT file) }
-    ensures twice { (file : List ℕ) → IsReadTwice (λ moment. file) file }
     ensures unchanged { (file : List ℕ) → ¬ HaveChanged
         (slot_read file) (slot_read (drop SECOND_AT file)) (Some file) (Some (drop SECOND_AT file)) }
     ensures served { (slot : Slot) (file : List ℕ) → IsNewest slot file
@@ -167,10 +68,11 @@ pub fn a_file_that_stays_is_read_as_it_is()
     ic_frames::laws::a_slot_is_open_or_whole();
 }
 
-/// A reading of the slots of a file over time, and one of their heads that begins where the first has ended: what is seen
-/// is seen of a file that has the slots of the first reading, and they were read twice. So a table of them stood in the
-/// file meanwhile, as `a_table_that_is_shown_stood` says.
-pub fn what_is_inspected_was_read_twice<R: Read, S: Read, T: Read, U: Read>(
+/// A reading of the slots of a file over time, and one of their heads that begins where the first has ended. What is seen is
+/// seen of a file that has the slots of the first reading. A server may write the file meanwhile: where that file holds a
+/// table, this table stood in the file at a moment of the two readings. Where none is held there, the file may hold one all
+/// the same.
+pub fn a_table_that_is_shown_stood<R: Read, S: Read, T: Read, U: Read>(
     alloc: Global,
     first: &mut R,
     second: &mut S,
@@ -180,16 +82,19 @@ pub fn what_is_inspected_was_read_twice<R: Read, S: Read, T: Read, U: Read>(
     ensures looked { (one two : List ℕ) → R.remaining first.old ≡ Some one
         → S.remaining second.old ≡ Some two → IfOk result
         (λ looked. IsLookedAt looked (file_of (slot_read one) (slot_read two))) }
-    ensures twice { (at : ℕ → List ℕ) (from between later until : ℕ)
-        (one two one_later two_later : List ℕ)
+    ensures stood { (at : ℕ → List ℕ) (from between later until : ℕ)
+        (one two one_later two_later : List ℕ) (t : List JobParts) → IsServed at
         → R.remaining first.old ≡ Some one → S.remaining second.old ≡ Some two
         → T.remaining first_again.old ≡ Some one_later
         → U.remaining second_again.old ≡ Some two_later
         → AreSlotsRead at from between one two → between ≤ later
-        → AreHeadsRead at later until one_later two_later → OnOk result
-        (IsReadTwiceBetween at from until (file_of (slot_read one) (slot_read two))) }
+        → AreHeadsRead at later until one_later two_later
+        → IsHeld (the_table t) (file_of (slot_read one) (slot_read two)) → OnOk result
+        ((m : ℕ) × (from ≤ m) × (m ≤ until) × IsHeld (the_table t) (at m)) }
 {
     ic_frames::laws::a_slot_is_open_or_whole();
+    the_newest_slot_is_held();
+    ic_slots::laws::the_newest_table_is_held();
     let slots = read_slots(alloc, first, second)?;
     look(alloc, &slots, first_again, second_again)
 }

@@ -1,8 +1,8 @@
 //! What a disk's file holds, told in lines of words or as objects of JSON, with nothing changed and no lock taken.
 //!
 //! `read_slots` reads the two slots of a file once. `look` is handed what it gave, reads the heads of the slots again, and
-//! answers what it saw if they are the same. `tell` writes that: each slot, and the jobs of the table that is held. `laws`
-//! says that what is seen as held is what an opening of the disk finds, and that it stood in the file meanwhile.
+//! answers what it saw if they are the same: `table` and `newest` of that say what the file holds. `tell` writes it: each slot,
+//! and the jobs of the table that is held. `laws` says that this table stood in the file meanwhile.
 #![tactic(auto)]
 
 mod choosing;

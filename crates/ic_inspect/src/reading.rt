@@ -4,7 +4,8 @@ ghost use Rattle.std.specs.Prelude.{◌≡◌, ◌≢◌, ◌⊎◌, ◌+◌, tr
 ghost use Rattle.std.specs.Io.KnownBytes.{Consumes};
 ghost use Rattle.std.specs.Str.{bytes_eq};
 ghost use Rattle.ic_frames.specs.declared.frame.TheConstants.{HEAD, MAX_BODY};
-ghost use Rattle.ic_inspect.specs.Slots.{HasHead, HasOtherHead, HaveChanged, IsFrontOf, IsSlotOf, TakesAtMost, is_one_file};
+ghost use Rattle.ic_inspect.specs.Slots.{HasHead, HasOtherHead, HaveChanged, IsSlotOf, TakesAtMost, is_one_file};
+ghost use Rattle.ic_inspect.specs.inner.Fronts.{IsFrontOf};
 
 use crate::fault::InspectFault;
 use crate::looking::body_room;

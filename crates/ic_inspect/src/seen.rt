@@ -1,8 +1,9 @@
 //! What is seen of the slots of a file.
 
-ghost use Rattle.std.specs.Prelude.{◌≡◌};
+ghost use Rattle.std.specs.Prelude.{◌≡◌, ℕ, List};
 ghost use Rattle.std.specs.Option.{option_map};
-ghost use Rattle.ic_inspect.specs.Held.{held_by_body, held_by_slot, held_of, newest_of, table_of};
+ghost use Rattle.ic_inspect.specs.Seeing.{IsLookedAt, IsNewestOf, IsTableOf};
+ghost use Rattle.ic_inspect.specs.inner.Held.{held_by_body, held_by_slot, held_of, table_of};
 
 use crate::choosing::{Newest, newest_of};
 use ic_jobs::Table;
@@ -50,19 +51,32 @@ pub struct Looked {
 }
 
 impl Looked {
-    /// The newest open slot, or why there is none.
+    /// The newest open slot of the file, or why there is none.
     pub fn newest(&self) -> Newest
-        ensures { result ≡ newest_of self.now.first self.now.second }
+        ensures { (file : List ℕ) → IsLookedAt self.now file → IsNewestOf result file }
     {
+        ic_frames::laws::a_slot_is_open_or_whole();
         newest_of(&self.first, &self.second)
     }
 
-    /// The table that is held: that of the newest open slot, if it has one.
+    /// The table that the file holds, if it holds one: what an opening of the disk finds.
     pub fn table(&self) -> Option<&Table>
+        ensures { (file : List ℕ) → IsLookedAt self.now file
+            → IsTableOf (option_map (λ table. table.now) result) file }
+    {
+        ic_frames::laws::a_slot_is_open_or_whole();
+        ic_frames::laws::the_newest_slot_is_held();
+        ic_slots::laws::the_newest_table_is_held();
+        ic_slots::laws::one_is_held();
+        self.seen_table()
+    }
+
+    /// The table of the newest open slot that is seen, if it has one.
+    fn seen_table(&self) -> Option<&Table>
         ensures { option_map (λ table. table.now) result
             ≡ table_of (held_of self.now.first self.now.second) }
     {
-        match self.newest() {
+        match newest_of(&self.first, &self.second) {
             Newest::First => table_in(&self.first),
             Newest::Second => table_in(&self.second),
             Newest::NoSlot | Newest::TwoAlike => None,

@@ -1,7 +1,7 @@
 use Rattle.std.proofs.Common.{Contains, refl, arith}
 use Rattle.ic_inspect.specs.declared.fault.InspectFault.{InspectFault}
 use Rattle.ic_inspect.specs.declared.fault.InspectFault.TheVariants.{Read, Changed, Memory, Write}
-use Rattle.ic_inspect.specs.Inspecting.{all_inspect_faults}
+use Rattle.ic_inspect.specs.Seeing.{all_inspect_faults}
 use Rattle.ic_inspect.proofs.laws.numbers_are_lasting.Goals as goal
 
 all : (fault : InspectFault) → Contains all_inspect_faults fault

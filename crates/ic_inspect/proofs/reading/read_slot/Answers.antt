@@ -1,6 +1,7 @@
 use Rattle.std.proofs.Common.{arith, ◌≡◌, ◌∙◌, ◌+◌, ◌++◌, ap, sym, subst, List, ℕ}
 use Rattle.ic_frames.specs.declared.frame.TheConstants.{HEAD, MAX_BODY}
-use Rattle.ic_inspect.specs.Slots.{IsFrontOf, IsSlotOf, body_room}
+use Rattle.ic_inspect.specs.Slots.{IsSlotOf, body_room}
+use Rattle.ic_inspect.specs.inner.Fronts.{IsFrontOf}
 use Rattle.ic_inspect.proofs.ReadLemmas.{slot_of, taken_both}
 use Rattle.ic_inspect.proofs.reading.read_slot.Goals as goal
 

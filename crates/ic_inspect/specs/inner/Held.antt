@@ -1,8 +1,6 @@
--- What two slots that were seen so hold.
+-- For private functions: what two slots that were seen so hold.
 use Rattle.std.specs.Prelude.{ℕ, List, ◌==◌, nat_lt, Option, None, Some, if◌then◌else◌}
 use Rattle.ic_jobs.specs.Job.{JobParts}
-use Rattle.ic_frames.specs.declared.slot.Slot.{Slot}
-use Rattle.ic_frames.specs.declared.slot.Slot.TheVariants as slot
 use Rattle.ic_slots.specs.Held.{Held, the_table, no_slot, two_alike, damaged}
 use Rattle.ic_inspect.specs.declared.choosing.Newest.{Newest}
 use Rattle.ic_inspect.specs.declared.choosing.Newest.TheVariants.{NoSlot, TwoAlike, First, Second}
@@ -52,11 +50,6 @@ held_by Second first second = held_by_slot second
 -- what is held: the table of the newest open slot, or why there is none
 abbrev pub held_of : Option Seen → Option Seen → Held
 held_of first second = held_by (newest_of first second) first second
-
--- this slot is the newest
-abbrev pub as_newest : Slot → Newest
-as_newest slot.First = First
-as_newest slot.Second = Second
 
 -- the table that is held, if one is
 abbrev pub table_of : Held → Option (List JobParts)

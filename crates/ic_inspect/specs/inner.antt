@@ -1,0 +1,4 @@
+-- What only contracts of private functions and proofs cite.
+pub mod Fronts
+pub mod Held
+pub mod Twice
