@@ -2,15 +2,17 @@
 
 ghost use Rattle.std.specs.Prelude.{◌≡◌, ◌≢◌, ◌⊎◌, ◌↔◌, ◌≤◌, [], IfOk, IfErr, IsErr, IsTrue, max, true};
 ghost use Rattle.std.specs.Arc.{arc_value};
+ghost use Rattle.std.specs.List.{AllByRecursion};
 ghost use Rattle.ic_disk.specs.Time.{OneMore};
 ghost use Rattle.ic_frames.specs.declared.faults.KeepFault.{KeepFault};
 ghost use Rattle.ic_kept.specs.Keeper.{Keeps, KeepsModel, newest_of, other_of};
 ghost use Rattle.ic_kept.specs.Opening.{OnlyReads};
 ghost use Rattle.ic_rules.specs.System.{SystemParts};
 ghost use Rattle.ic_state.specs.State.{IsKept, Kept, kept_by, state_bytes};
+ghost use Rattle.ic_state.specs.Words.{IsKeptWord};
 ghost use Rattle.ic_keeping.specs.declared.fault.KeepingFault.{KeepingFault};
-ghost use Rattle.ic_keeping.specs.Life.{IsFirstLife, IsTold, StopsABegin, StopsARun};
-ghost use Rattle.ic_keeping.specs.Way.{AreRulesOf, IsAnswer, IsAsFar, IsReachedFrom, IsStateOf};
+ghost use Rattle.ic_keeping.specs.Life.{IsFirstLife, IsTold, KeepFails, StopsABegin, StopsARun};
+ghost use Rattle.ic_keeping.specs.Way.{AreRulesOf, ComesPastLimits, IsAnswer, IsAsFar, IsReachedFrom, IsStateOf};
 
 use crate::beginning::{ResumeFault, Start, begin};
 use crate::going::{Ended, go_on};
@@ -59,12 +61,15 @@ pub fn live_anew<D: Disk, T: Threads + Sync, C: Clock + Sync, V: Watch>(
         × IsFirstLife D.keeps D.content D.image D.clock D.left s (kept_by start.state) lived.1
         × IsReachedFrom s (kept_by start.state) (kept_by lived.0.state)
         × (lived.0.state.interactions ≤ max bounds.steps start.state.interactions)) }
-    // So it is where it stops by a fault, unless it is refused the files: then they are as `begin` leaves them.
+    // So it is where it stops by a fault, unless it is refused the files: then they are as `begin` leaves them. A keep that
+    // was refused says why.
     ensures stopped { (s : SystemParts) → AreRulesOf s (arc_value start.rules)
         → IsStateOf s (kept_by start.state) → IsTrue (D.keeps first) → IsTrue (D.keeps second)
         → IfErr result (λ fault. StopsABegin fault.cause ⊎ ((n : Keeper D)
-        × IsFirstLife D.keeps D.content D.image D.clock D.left s (kept_by start.state) n
-        × (fault.first ≡ newest_of n) × (fault.second ≡ other_of n))) }
+        × (life : IsFirstLife D.keeps D.content D.image D.clock D.left s (kept_by start.state) n)
+        × (fault.first ≡ newest_of n) × (fault.second ≡ other_of n)
+        × ((cause : KeepFault) → fault.cause ≡ KeepingFault.Keep cause
+        → KeepFails cause life.keeper n))) }
     // Files of which one holds something are only read, and refused.
     ensures not_empty { IsTrue (D.keeps first) → IsTrue (D.keeps second)
         → ¬ ((D.content first ≡ []) × (D.content second ≡ []))
@@ -79,6 +84,12 @@ pub fn live_anew<D: Disk, T: Threads + Sync, C: Clock + Sync, V: Watch>(
     ensures refused { (s : SystemParts) → AreRulesOf s (arc_value start.rules)
         → IsStateOf s (kept_by start.state)
         → IfErr result (λ fault. StopsABegin fault.cause ⊎ StopsARun fault.cause) }
+    // At a limit a word of the state has no number, as none that `begun` has read, or a net is reached which is past one.
+    ensures limit { (s : SystemParts) → AreRulesOf s (arc_value start.rules)
+        → IsStateOf s (kept_by start.state)
+        → IfErr result (λ fault. fault.cause ≡ KeepingFault.Limit
+        → ¬ AllByRecursion IsKeptWord start.state.words.items
+        ⊎ ComesPastLimits s (kept_by start.state)) }
     ensures device { (s : SystemParts) → AreRulesOf s (arc_value start.rules)
         → IsStateOf s (kept_by start.state)
         → IfErr result (λ fault. fault.cause ≡ KeepingFault.Device

@@ -47,8 +47,12 @@ pub fn begun(alloc: Global, text: &[u8]) -> Result<Start, Misread>
     ensures short { IfOk result (λ begun. length begun.state.text.items ≤ length text.now) }
     ensures refused { IfErr result (λ misread. misread.fault ≢ TextFault.Memory
         → ReadsSystemWithin Limits.Wide text.now (Err misread.fault)) }
+    // Each word has a number, so that no file is refused it.
+    ensures numbered { IfOk result (λ begun.
+        AllByRecursion IsKeptWord begun.state.words.items) }
 {
     ic_reaching::laws::what_is_reached_is_one_net();
+    ic_text::laws::next_is_one_above_the_names();
     let system = find_wide_system(alloc, Limits::Wide, text)?;
     systems_are_sound(&system);
     let (rules, config) = system.into_parts();

@@ -67,6 +67,7 @@ returns-in-Err-go_on-clause-stopped g c s are is keeps keeps_too =
       },
       c.close-first.ensures.newest,
       c.close-first.ensures.other,
+      c.in-Err-go_on.ensures.failed,
     )
 
 pub returns-in-Err-go_on-clause-refused : goal.returns-in-Err-go_on-clause-refused
@@ -85,6 +86,9 @@ returns-in-Err-go_on-clause-not_empty g c keeps keeps_too held = absurd (held (c
 
 pub returns-in-Err-go_on-clause-refused_so : goal.returns-in-Err-go_on-clause-refused_so
 returns-in-Err-go_on-clause-refused_so g c s are is keeps keeps_too same = absurd (run_not_empty c.in-Err-go_on.cause (c.in-Err-go_on.ensures.refused s are is) same)
+
+pub returns-in-Err-go_on-clause-limit : goal.returns-in-Err-go_on-clause-limit
+returns-in-Err-go_on-clause-limit g c s are is limit = inr (c.in-Err-go_on.ensures.limit s are is limit)
 
 pub returns-in-Err-go_on-clause-device : goal.returns-in-Err-go_on-clause-device
 returns-in-Err-go_on-clause-device g c s are is same = absurd (run_not_device c.in-Err-go_on.cause (c.in-Err-go_on.ensures.refused s are is) same)

@@ -1,13 +1,16 @@
-use Rattle.std.proofs.Common.{◌≡◌, ◌∙◌, ℕ, List, Ok, length, refl, sym, ap, subst}
+use Rattle.std.proofs.Common.{◌≡◌, ◌∙◌, ℕ, ◌+◌, ◌≤◌, List, Ok, length, refl, sym, ap, subst}
 use Rattle.std.proofs.lemmas.Result.{err_from_is_err_and}
-use Rattle.ic_term.specs.Configuration.{Configuration}
+use Rattle.ic_term.specs.Configuration.{Configuration, configuration_names, one_above}
+use Rattle.ic_term.specs.Symbol.{is_over}
 use Rattle.ic_rules.specs.RuleSet.{Rules}
 use Rattle.ic_flat.specs.Flat.{configuration_of}
+use Rattle.ic_flat.specs.lemmas.FlatLaws.{names-configuration_of, over-configuration_of}
 use Rattle.ic_text.specs.SystemText.{ReadsSystemWithin}
 use Rattle.ic_text.specs.declared.limits.Limits.TheVariants.{Wide}
+use Rattle.ic_text.specs.declared.limits.TheConstants.{MAX_NAME}
 use Rattle.ic_keeping.specs.Way.{IsOnWay}
 use Rattle.ic_keeping.proofs.LowNames.{low_begun}
-use Rattle.ic_keeping.proofs.WayLemmas.{begun_on_way}
+use Rattle.ic_keeping.proofs.WayLemmas.{begun_on_way, words_numbered}
 use Rattle.ic_keeping.proofs.beginning.begun.Goals as goal
 
 pub returns-clause-read : goal.returns-clause-read
@@ -61,3 +64,18 @@ pub returns-in_err-kept-clause-refused : goal.returns-in_err-kept-clause-refused
 returns-in_err-kept-clause-refused c =
     let e = err_from_is_err_and c.from_residual-in_err-kept.result c.from_residual-in_err-kept.ensures.1 in
     rw (e.1, e.2) (λ other. absurd (other refl))
+
+pub returns-clause-numbered : goal.returns-clause-numbered
+returns-clause-numbered c =
+    let s = c.in_ok-system.system in
+    let words = c.into_parts-words.result.0.items in
+    let terms = c.into_parts-words.result.1 in
+    let flat = c.into_parts-words.ensures.flat in
+    let whole : configuration_of words terms c.into_parts-words.result.3 ≡ s.config = c.into_parts-words.ensures.same ∙ c.into_parts-rules.ensures.config in
+    let over = sym (over-configuration_of words terms c.into_parts-words.result.2 c.into_parts-words.result.3 flat.counted s.rules.symbols flat.whole) ∙ ap (λ (d : Configuration). is_over s.rules.symbols d) whole
+    ∙ c.systems_are_sound.ensures.sound.over in
+    let names = ap (λ (d : Configuration). configuration_names d) (sym whole) ∙ names-configuration_of words terms c.into_parts-words.result.2 c.into_parts-words.result.3 flat.counted in
+    let low = low_begun c.args.text.now s c.in_ok-system.ensures.read c.in_ok-system.ensures.spelled in
+    words_numbered s.rules.symbols c.systems_are_sound.ensures.symbols words over
+    (subst (λ (ns : List ℕ). one_above ns ≤ MAX_NAME + 1) names
+    (subst (λ (n : ℕ). n ≤ MAX_NAME + 1) (c.next_is_one_above_the_names.ensures.system Wide c.args.text.now s c.in_ok-system.ensures.read) low))
