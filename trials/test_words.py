@@ -126,6 +126,13 @@ class Words(Trial):
                 self.equals(ran.command, "bytes that are no printable ASCII", b"", others)
                 self.equals(ran.command, "whether others stand for them", True, b"?" in ran.err)
 
+    def test_of_the_words_that_are_like_a_refused_one_the_likest_is_told_first(self):
+        for word, like in (("redcue", "'reduce', 'trace'"), ("reudce", "'reduce', 'trace'"), ("some similar subcommands exist: redcue", None)):
+            ran = run(word)
+            told = "error: unrecognized subcommand '%s'\n\n%sUsage: icserve <COMMAND>\n\nFor more information, try '--help'.\n"
+            tip = f"  tip: some similar subcommands exist: {like}\n\n" if like else ""
+            self.equals(ran.command, "how it ends", (2, b"", (told % (word, tip)).encode()), (ran.status, ran.out, ran.err))
+
     def test_help_limits_tells_the_limits_of_the_page(self):
         def numbers(cell):
             return [(2 ** int(it[2]) if it[2] else int(it[3].replace(",", ""))) - bool(it[1]) for it in NUMBER.finditer(cell)]

@@ -10,6 +10,7 @@ pub mod laws;
 mod parser;
 mod rows;
 pub mod table;
+mod tips;
 mod values;
 mod words;
 

@@ -8,6 +8,7 @@ ghost use Rattle.ic_args.specs.declared.table.Word.{Word};
 use crate::parser::command;
 use crate::rows::Entry;
 use crate::table::{KEEP, ONE_FILE, RESUME, SECONDS, Word};
+use crate::tips::likest_first;
 use crate::values::Values;
 use clap::error::{Error, ErrorKind};
 use std::alloc::{AllocError, AllocFailed, Global};
@@ -139,7 +140,10 @@ fn refused<'a>(alloc: Global, error: &Error) -> Result<Request<'a>, WordsFault>
         ErrorKind::DisplayHelp | ErrorKind::DisplayVersion => {
             Ok(Request::Shown(error.to_string(alloc)?))
         }
-        _ => Err(refusal_of(alloc, error.to_string(alloc)?.as_str())),
+        _ => {
+            let text = likest_first(alloc, error.to_string(alloc)?.as_str())?;
+            Err(refusal_of(alloc, text.as_str()))
+        }
     }
 }
 
