@@ -32,6 +32,8 @@ It needs Linux on x86-64 with glibc {glibc} or later. The scripts bin/icserve-fi
 film and pictures Graphviz. Put bin/ on the path, or copy bin/, share/ and lib/ below /usr/local. The Python package is in
 lib/python3/dist-packages. README.md and docs/ are the pages of the sources, {commit}.
 
+{version}
+sources {sources}
 {proved}
 """
 
@@ -55,9 +57,18 @@ Description: reduces interaction nets, and keeps jobs of them on disk
 """
 
 
-def said(*command):
-    ran = subprocess.run(command, stdout=subprocess.PIPE, stderr=subprocess.DEVNULL, cwd=TOP, universal_newlines=True)
+def said(*command, **env):
+    how = {"stdout": subprocess.PIPE, "stderr": subprocess.DEVNULL, "cwd": TOP, "env": {**os.environ, **env}}
+    ran = subprocess.run(command, universal_newlines=True, **how)
     return ran.stdout.strip() if ran.returncode == 0 else ""
+
+
+def told_in(name, version):
+    """What a release tells of itself: how to begin, and what it was made from."""
+    sources = said("./icserve", ICSERVE_BUILD="sources").split(" ")[0]
+    commit = said("git", "describe", "--always", "--dirty") or "of no commit"
+    proved = UNPROVED if name.endswith("unproved") else PROVED
+    return START.format(glibc=GLIBC, commit=commit, version=version, sources=sources, proved=proved)
 
 
 def moment():
@@ -113,13 +124,12 @@ def package(name, version, folder, path):
 def main(program, name, folder):
     folder = Path(folder)
     folder.mkdir(parents=True, exist_ok=True)
-    version = subprocess.run([program, "--version"], stdout=subprocess.PIPE, check=True, universal_newlines=True).stdout.split()[1]
-    proved = UNPROVED if name.endswith("unproved") else PROVED
+    says = subprocess.run([program, "--version"], stdout=subprocess.PIPE, check=True, universal_newlines=True).stdout.strip()
+    version, told = says.split()[1], told_in(name, says)
     made = []
     with tempfile.TemporaryDirectory() as room:
         tree = Path(room, f"{name}-{version}")
         lay(program, tree)
-        told = START.format(glibc=GLIBC, commit=said("git", "describe", "--always", "--dirty") or "of no commit", proved=proved)
         (tree / "START").write_text(told)
         shutil.copy(TOP / "README.md", tree)
         for it in ("docs", "examples"):

@@ -169,7 +169,10 @@ class Releases(Trial):
         subprocess.run(["sha256sum", "--quiet", "-c", "SHA256SUMS"], cwd=self.room / "one", check=True)
         archive = next((self.room / "one").glob("*.tar.gz"))
         subprocess.run(["tar", "-xzf", archive, "-C", self.room], check=True)
-        self.works(next(self.room.glob("icserve-*")), "")
+        tree = next(self.room.glob("icserve-*"))
+        self.works(tree, "")
+        wanted = run("--version").out.decode() + "sources [0-9a-f]{64}\n"
+        self.assertRegex((tree / "START").read_text(), wanted.replace("(", "\\(").replace(")", "\\)"))
         package = next((self.room / "one").glob("*.deb"), None)
         if package:
             self.installs(package, self.room / "root")

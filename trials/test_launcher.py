@@ -295,6 +295,15 @@ class Launcher(Trial):
             self.ended(self.launch("settle", given=b"<|", path=path), err=["icserve: bad syntax"], status=1)
             self.ended(self.launch("serve", "--disk", "no file", path=path), err=["icserve: device"], status=3)
 
+    def test_with_the_version_it_tells_the_sources(self):
+        self.settles()
+        sources = self.launch(ICSERVE_BUILD="sources").out.decode().split()[0]
+        for word in ("--version", "-V"):
+            self.ended(self.launch(word), out=run(word).out + f"sources {sources}\n".encode())
+        self.source.write_text("second\n")
+        told = self.launch("--version").out.decode()
+        self.equals("./icserve --version, of other sources", "whether it tells the same", False, sources in told)
+
     def test_status_4_where_what_it_is_made_from_isnt_proved(self):
         for fails, crates in (("all", "low: failed (1)\n0 of 2 crates ok\n"), ("run", "2 of 2 crates ok\n")):
             ran = self.launch("settle", FAILS=fails, REFUSES="1")

@@ -12,7 +12,7 @@ use clap::{Arg, ArgAction, Command};
 use std::alloc::{AllocError, Global};
 
 /// The version of the program. A build with nothing proved says so in place of the last word (build.py).
-const VERSION: &str = "0.1.0 (proved)";
+const VERSION: &str = "0.2.0 (proved)";
 
 /// What the parser is told of a row.
 fn arg_of<'a>(alloc: Global, argument: Argument) -> Result<Arg<'a>, AllocError>
