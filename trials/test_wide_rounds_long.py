@@ -31,7 +31,7 @@ class ManyBesideWords(BesideWords):
             for kind, count in self.are_those_of_words(drawn, systems, most).items():
                 seen[kind] = seen.get(kind, 0) + count
         self.equals("icserve trace", f"all systems: {seen}", EACH, seen["systems"])
-        self.equals("icserve trace", f"rounds were made: {seen}", True, seen["rounds"] > EACH)
+        self.equals("icserve trace", f"rounds were made: {seen}", True, seen["rounds"] > EACH // 2)
 
     def test_small_systems(self):
         self.beside(lambda drawn: draws.system(drawn, drawn.choice([1, 2]), drawn.choice([2, 3, 4])), 12)

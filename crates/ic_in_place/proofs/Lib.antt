@@ -25,3 +25,4 @@ pub mod RoundedNet
 pub mod LineByRounds
 pub mod RoundsNeeded
 pub mod RoundsTold
+pub mod RoundsEnough

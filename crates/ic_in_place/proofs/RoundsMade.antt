@@ -8,7 +8,7 @@ use Rattle.ic_arena.specs.Piece.{Piece}
 use Rattle.ic_machine.specs.declared.equation.Equation.{Equation}
 use Rattle.ic_machine.specs.declared.generation.Generation.{Generation}
 use Rattle.ic_machine.specs.Generations.{Advances, Takes, beside, ended, fires, later, present, stays}
-use Rattle.ic_machine.specs.Net.{Net, HasNext, IsActive, IsAtPlace, IsStuck, equated_of}
+use Rattle.ic_machine.specs.Net.{Net, HasNext, IsActive, IsStuck, equated_of}
 use Rattle.ic_machine.specs.Plan.{Plans}
 use Rattle.ic_machine.specs.Runs.{Ran}
 use Rattle.ic_machine.specs.lemmas.RunsOn.{ran_none, ran_none-fired, ran_on}

@@ -35,7 +35,7 @@ use Rattle.ic_in_place.specs.Holding.{AreCompiled, AreGiven}
 use Rattle.ic_in_place.specs.Stopping.{IsBegun}
 use Rattle.ic_in_place.proofs.LineByRounds.{a_round_is_settled}
 use Rattle.ic_in_place.specs.Rounds.{AreOver, AreTold, CountsRounds, FireAfterFirst, none_told, none_yet, one_told, some}
-use Rattle.ic_in_place.specs.Told.{IsBetween, RoundFigures, RoundOver, figures_after, figures_by, figures_of}
+use Rattle.ic_in_place.specs.Told.{IsBetween, RoundOver, figures_after, figures_by, figures_of}
 use Rattle.ic_in_place.specs.declared.running.End.{End}
 use Rattle.ic_in_place.specs.declared.running.End.TheVariants.{Quiet, Steps, Nodes, Limit, Memory}
 use Rattle.ic_in_place.specs.declared.stream.Outcome.{Outcome}
@@ -154,7 +154,7 @@ at_most_one (f ∷ made) fire none =
     omega (arith, rest, all, none)
 
 -- no step is possible, and none was made
-abbrev StoodStill : End → (interactions : ℕ) → (name_steps : Option ℕ) → Type 0
+abbrev pub StoodStill : End → (interactions : ℕ) → (name_steps : Option ℕ) → Type 0
 StoodStill end n steps = (end ≡ Quiet) × (n ≡ 0) × (steps ≡ Some 0)
 
 no_step : (k : ℕ) → ◌≡◌ {A = Option ℕ} (Some (suc k)) (Some 0) → ⊥
@@ -163,7 +163,7 @@ no_step k same = let inner : suc k ≡ 0 = cc in absurd (omega (arith, inner))
 none_known : ◌≡◌ {A = Option ℕ} None (Some 0) → ⊥
 none_known same = cc
 
-stood_still : (end : End) (n : ℕ) (steps : Option ℕ) → StoodStill end n steps ⊎ (¬ StoodStill end n steps)
+pub stood_still : (end : End) (n : ℕ) (steps : Option ℕ) → StoodStill end n steps ⊎ (¬ StoodStill end n steps)
 stood_still Quiet zero (Some zero) = inl (refl, refl, refl)
 stood_still Quiet zero (Some (suc k)) = inr (λ is. no_step k is.2)
 stood_still Quiet zero None = inr (λ is. none_known is.2)

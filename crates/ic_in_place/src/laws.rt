@@ -349,3 +349,38 @@ pub fn what_is_told_of_rounds()
     ic_meaning::laws::rounds_in_place_are_rounds();
     ic_meaning::laws::equations_left_are_all_but_circles();
 }
+
+/// Rounds of a text are made as long as a step is possible, at most so many. Before each but the first a pair could fire. The first
+/// one was needed too, unless it was broken off before any pair had fired.
+pub fn rounds_are_made_while_a_step_is_possible()
+    ensures within { (limits : Limits) (most : ℕ) (asked : Asked) (input line : List ℕ)
+        (reached : Rounded) → EndsByRounds limits most asked input reached line
+        → reached.rounds ≤ most }
+    ensures later { (limits : Limits) (most : ℕ) (asked : Asked) (input line : List ℕ)
+        (reached : Rounded) (n : ℕ) → (is : EndsByRounds limits most asked input reached line)
+        → 1 ≤ n → n < reached.rounds
+        → ¬ IsQuiet is.system.rules.rules (iterate is.system.rules.rules n is.system.config) }
+    ensures first { (limits : Limits) (most : ℕ) (asked : Asked) (input line : List ℕ)
+        (reached : Rounded) → (is : EndsByRounds limits most asked input reached line)
+        → (reached.outcome.end ≡ Quiet) ⊎ ((reached.outcome.end ≡ Steps)
+        ⊎ (1 ≤ reached.outcome.interactions))
+        → 1 ≤ reached.rounds → ¬ IsQuiet is.system.rules.rules is.system.config }
+    ensures quiet { (limits : Limits) (most : ℕ) (asked : Asked) (input line : List ℕ)
+        (reached : Rounded) → (is : EndsByRounds limits most asked input reached line)
+        → reached.outcome.end ≡ Quiet → 1 ≤ most → IsQuiet is.system.rules.rules
+        (iterate is.system.rules.rules reached.rounds is.system.config) }
+    ensures steps { (limits : Limits) (most : ℕ) (asked : Asked) (input line : List ℕ)
+        (reached : Rounded) → (is : EndsByRounds limits most asked input reached line)
+        → reached.outcome.end ≡ Steps → (reached.rounds ≡ most)
+        × (¬ IsQuiet is.system.rules.rules
+        (iterate is.system.rules.rules most is.system.config)) }
+{
+    ic_confluence::laws::same_nets_take_the_same_steps();
+    ic_reaching::laws::one_net_is_an_equivalence();
+    ic_reaching::laws::where_names_begin_is_all_that_differs();
+    ic_reaching::laws::what_is_reached_is_one_net();
+    ic_reaching::laws::what_is_reached_goes_on();
+    ic_reaching::laws::what_is_reached_quiet_is_the_end_of_every_order();
+    name_steps_are_those_of_every_order();
+    what_is_put_together_has_no_name_step();
+}
