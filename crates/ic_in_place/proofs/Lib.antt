@@ -26,3 +26,4 @@ pub mod LineByRounds
 pub mod RoundsNeeded
 pub mod RoundsTold
 pub mod RoundsEnough
+pub mod Amounts

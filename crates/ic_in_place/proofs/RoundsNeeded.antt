@@ -70,7 +70,7 @@ all_none_fired rs numbers (f ∷ made) c quiet fired =
 
 -- ---- each round that fires was needed
 
-round_first : (rs : List Rule) (k : ℕ) (c : Configuration) → iterate rs k (round rs c) ≡ iterate rs (suc k) c
+pub round_first : (rs : List Rule) (k : ℕ) (c : Configuration) → iterate rs k (round rs c) ≡ iterate rs (suc k) c
 round_first rs zero c = refl
 round_first rs (suc k) c = ap (round rs) (round_first rs k c)
 

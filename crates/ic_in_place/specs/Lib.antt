@@ -2,6 +2,7 @@ pub mod Holding
 pub mod Running
 pub mod Summing
 pub mod Stopping
+pub mod Amounts
 pub mod Counting
 pub mod Reducing
 pub mod Reductions

@@ -1,8 +1,8 @@
 //! Laws of what a machine holds, and of what is answered.
 
-ghost use Rattle.std.specs.Prelude.{◌≡◌, ◌≢◌, ◌⊎◌, ℕ, ◌+◌, ◌^◌, ◌<◌, ◌≤◌, List, [], ◌∷◌, Option, SomeIff, Ok, IsTrue, length, map, sum, sum_by};
+ghost use Rattle.std.specs.Prelude.{◌≡◌, ◌≢◌, ◌⊎◌, ℕ, ◌+◌, ◌*◌, ◌^◌, ◌<◌, ◌≤◌, List, [], ◌∷◌, Option, SomeIff, Ok, IsTrue, length, map, sum, sum_by};
 ghost use Rattle.std.specs.List.{AllByRecursion};
-ghost use Rattle.ic_term.specs.Configuration.{Configuration, configuration_names, occurrences};
+ghost use Rattle.ic_term.specs.Configuration.{Configuration, configuration_names, configuration_nodes, occurrences};
 ghost use Rattle.ic_term.specs.Symbol.{is_over};
 ghost use Rattle.ic_rules.specs.RuleSet.{Rules, IsRuleSet};
 ghost use Rattle.ic_naming.specs.Naming.{renumbered};
@@ -15,7 +15,9 @@ ghost use Rattle.ic_text.specs.declared.limits.TheConstants.{MAX_NAME};
 ghost use Rattle.ic_streams.specs.Streams.{line_of};
 ghost use Rattle.ic_round.specs.Rounds.{iterate};
 ghost use Rattle.ic_round.specs.Quiet.{IsQuiet};
+ghost use Rattle.ic_confluence.specs.Agents.{configuration_symbols};
 ghost use Rattle.ic_confluence.specs.Kinds.{Kind, Chain};
+ghost use Rattle.ic_generations.specs.Figures.{amount, arity_of};
 ghost use Rattle.ic_reaching.specs.OneNet.{OneNet, SameButNext};
 ghost use Rattle.ic_reaching.specs.Reaching.{Reaches, rules_fired};
 ghost use Rattle.ic_machine.specs.Net.{Net, pieces};
@@ -31,6 +33,7 @@ ghost use Rattle.ic_in_place.specs.declared.running.End.TheVariants.{Quiet, Step
 ghost use Rattle.ic_in_place.specs.declared.stream.Asked.{Asked};
 ghost use Rattle.ic_in_place.specs.declared.stream.Asked.TheVariants.{Nothing};
 ghost use Rattle.ic_in_place.specs.declared.stream.Outcome.{Outcome};
+ghost use Rattle.ic_in_place.specs.Amounts.{all_made, all_spent};
 ghost use Rattle.ic_in_place.specs.Counting.{AreCounts, AreNameSteps, TellsNameSteps, arguments_at, name_steps};
 ghost use Rattle.ic_in_place.specs.Reducing.{IsPutTogether, IsReached};
 ghost use Rattle.ic_in_place.specs.Reductions.{EndsAs};
@@ -383,4 +386,25 @@ pub fn rounds_are_made_while_a_step_is_possible()
     ic_reaching::laws::what_is_reached_quiet_is_the_end_of_every_order();
     name_steps_are_those_of_every_order();
     what_is_put_together_has_no_name_step();
+}
+
+/// What agents amount to, each by its symbol, is after rounds what it was before, with what the rules that fired make, less what
+/// they spend. Nodes are the terms of the interface, two for each equation, and the arities of agents. Those that are no agents are
+/// names.
+pub fn amounts_are_those_of_rounds()
+    ensures amounts { (f : ℕ → ℕ) (rs : Rules) (numbers : List ℕ) (made : List (List ℕ))
+        (c : Configuration) → IsRuleSet rs → IsTrue (is_over rs.symbols c) → HasNames c
+        → FireAsRounds rs.rules numbers made c
+        → amount f (iterate rs.rules (length made) c) + all_spent f rs.rules numbers made
+        ≡ amount f c + all_made f rs.rules numbers made }
+    ensures nodes { (rs : Rules) (n : ℕ) (c : Configuration) → IsRuleSet rs
+        → IsTrue (is_over rs.symbols c) → configuration_nodes (iterate rs.rules n c)
+        ≡ length (iterate rs.rules n c).interface + 2 * length (iterate rs.rules n c).equations
+        + amount (arity_of rs.symbols) (iterate rs.rules n c) }
+    ensures names { (c : Configuration) → length (configuration_names c)
+        + length (configuration_symbols c) ≡ configuration_nodes c }
+{
+    ic_round::laws::chains_are_steps();
+    ic_round::laws::rounds_are_steps();
+    ic_generations::laws::figures_add_up_over_agents();
 }
