@@ -585,15 +585,15 @@ class Keep(Stops):
         rules = "{ A(B(x),y)><B(A(x,y)) ;\nA(x,y)><C(x,y) }"
         long = ",".join(f"Odd(q{it},D)=Even(Nil,q{it},Odd(D,Nil))" for it in range(1, 40))
         few = f"{rules} <r,s|A(r,s)=B(C(t,t)),{long}>"
-        for text, front in ((few, f"{rules}<A("), (f"{{}}<{'S(' * 99}Z{')' * 99}|>", "{}<S(a),Z|>"), ("{}<|>", "{}<|>"), ("{A><B}<|>", "{A><B}<|>")):
+        for text, front in ((few, f"{rules}<A("), (f"{{}}<{'S(' * 99}Z{')' * 99}|>", "{}<S(a),Z|>"), ("{}<|>", None), ("{A><B}<C|A=B>", None)):
             whole = self.whole(text)
             self.clear()
             run("reduce", "--keep", self.file, "--steps", 1, "--quiet-answer", given=text)
             kept = self.contents()
             newest = max((0, 1), key=lambda it: seen(it, kept[it])[1])
             numbers, words, rest = state_of(kept[newest])
-            self.equals(text, "the text that is kept", (True, True), (rest.startswith(front.encode()), len(rest) <= len(text)))
-            self.equals(text, "whether it has the configuration", False, len(text) > 99 and len(rest) > 99)
+            is_short = rest.startswith(front.encode()) and 2 * len(rest) <= len(text) if front else rest == text.encode()
+            self.equals(text, f"whether its rules are kept, or all of it: {rest}", True, is_short)
             for content in (kept[newest], with_state(kept[newest], numbers, words, text.encode())):
                 self.put(content if it == newest else kept[it] for it in (0, 1))
                 self.agree(run("reduce", "--resume", self.file, *FIGURES), whole)

@@ -9,8 +9,8 @@ use ic_term::Symbols;
 use ic_text::{Limits, find_wide_system, put_name};
 use std::alloc::{AllocError, Global};
 
-/// A text with the rules and the symbols of this one, which are these: a short one without its configuration, or this one if it
-/// is no longer.
+/// A text with the rules and the symbols of this one, which are these: one without its configuration, or this one if that has
+/// more than half as many bytes. So reading the rules once more takes at most half as long as it took.
 pub(crate) fn kept_text(alloc: Global, text: &[u8], rules: &RuleSet) -> Result<Vec<u8>, AllocError>
     ensures read { (s : SystemParts) → ReadsSystemWithin Limits.Wide text.now (Ok s)
         → s.rules ≡ rules.now → IfOk result (λ kept. (read : SystemParts)
@@ -18,20 +18,20 @@ pub(crate) fn kept_text(alloc: Global, text: &[u8], rules: &RuleSet) -> Result<V
     ensures short { IfOk result (λ kept. length kept.items ≤ length text.now) }
 {
     let short = short_text(alloc, text, rules.symbols())?;
-    if tells_rules(alloc, &short, text.len(), rules) {
+    if tells_rules(alloc, &short, text.len() / 2, rules) {
         return Ok(short);
     }
     let whole = text.to_vec(alloc)?;
     Ok(whole)
 }
 
-/// Whether a text has fewer bytes than these, and is read as a system with these rules and their symbols.
-fn tells_rules(alloc: Global, text: &[u8], bytes: usize, rules: &RuleSet) -> bool
-    ensures short { result ≡ true → length text.now ≤ bytes }
+/// Whether a text has at most so many bytes, and is read as a system with these rules and their symbols.
+fn tells_rules(alloc: Global, text: &[u8], most: usize, rules: &RuleSet) -> bool
+    ensures short { result ≡ true → length text.now ≤ most }
     ensures read { result ≡ true → (read : SystemParts)
         × ReadsSystemWithin Limits.Wide text.now (Ok read) × (read.rules ≡ rules.now) }
 {
-    if text.len() >= bytes {
+    if text.len() > most {
         return false;
     }
     match find_wide_system(alloc, Limits::Wide, text) {
