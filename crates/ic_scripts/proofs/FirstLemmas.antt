@@ -5,7 +5,7 @@ use Rattle.std.specs.List.{AllByRecursion, filter_map}
 use Rattle.ic_book.specs.declared.fault.BookFault.{BookFault}
 use Rattle.ic_attend.specs.declared.attended.ClientRun.{ClientRun}
 use Rattle.ic_attend.specs.declared.attended.RunnerEnd.{RunnerEnd}
-use Rattle.ic_scripts.specs.Outcome.{IsFirstOf, client_fault, faults_of, keep_faults, runner_fault}
+use Rattle.ic_scripts.specs.Telling.{IsFirstOf, client_fault, faults_of, keep_faults, runner_fault}
 use Rattle.ic_scripts.specs.declared.fault.ScriptsFault.{ScriptsFault}
 
 module _ {X Y : Type 0} (f : X → Option Y) where

@@ -23,9 +23,8 @@ use Rattle.ic_book.specs.Server.{Closes, Step, down, up}
 use Rattle.ic_attend.specs.declared.fault.AttendFault.{AttendFault}
 use Rattle.ic_attend.specs.declared.fault.AttendFault.TheVariants as attending
 use Rattle.ic_attend.specs.Faults.{IfUnopened, IfUnbegun, IfStopped, IfTorn, IsUnopened, IsAsOpened, IsStopped, IsTorn}
-use Rattle.ic_scripts.specs.Attending.{HasTable}
-use Rattle.ic_scripts.specs.Outcome.{disk_left, fault_of_attendance}
-use Rattle.ic_scripts.specs.Reasons.{IsKeptAndClosed, KeepTells, SaysWhy}
+use Rattle.ic_scripts.specs.Attending.{HasTable, IsKeptAndClosed, KeepTells, SaysWhy}
+use Rattle.ic_scripts.specs.inner.Without.{disk_left, fault_of_attendance}
 
 pub keeps_same : (c : Option (List ℕ)) → Keeps c c
 keeps_same None = tt

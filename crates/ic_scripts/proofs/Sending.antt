@@ -1,18 +1,11 @@
 -- What a writer holds.
-use Rattle.std.proofs.Common.{◌≡◌, ℕ, ◌-◌, List, [], ◌++◌, Option, None, Some, length, take, drop, sym, ap, subst, ◌∙◌, append-nil, append_assoc, take-append-drop}
-use Rattle.std.proofs.lemmas.List.{take_rest}
-use Rattle.std.specs.Io.KnownBytes.{Appends, Keeps}
-use Rattle.ic_scripts.specs.Telling.{WritesFront}
+use Rattle.std.proofs.Common.{◌≡◌, ℕ, List, [], ◌++◌, Option, None, Some, sym, ap, subst, ◌∙◌, append-nil, append_assoc}
+use Rattle.std.specs.Io.KnownBytes.{Appends}
+use Rattle.ic_output.specs.Output.{AppendsFront}
 
 pub appends_none : (c : Option (List ℕ)) → Appends c c []
 appends_none None = tt
 appends_none (Some xs) = sym (append-nil xs)
-
-pub appends_kept : (old mid new : Option (List ℕ)) (a : List ℕ) → Appends old mid a → Keeps mid new → Appends old new a
-appends_kept None mid new a p q = tt
-appends_kept (Some xs) None new a p q = absurd p
-appends_kept (Some xs) (Some ys) None a p q = absurd q
-appends_kept (Some xs) (Some ys) (Some zs) a p q = q ∙ p
 
 pub appends_more : (old mid new : Option (List ℕ)) (a b : List ℕ) → Appends old mid a → Appends mid new b → Appends old new (a ++ b)
 appends_more None mid new a b p q = tt
@@ -26,19 +19,7 @@ pub record IsSent (bytes rest : List ℕ) (old now : Option (List ℕ)) : Type 0
   pub parted : bytes ≡ sent ++ rest
   pub written : Appends old now sent
 
-pub sent_more : (bytes rest : List ℕ) (n : ℕ) (old mid new : Option (List ℕ)) → IsSent bytes rest old mid → Appends mid new (take n rest)
-    → IsSent bytes (take (length rest - n) (drop n rest)) old new
-sent_more bytes rest n old mid new s more = record {
-  sent = s.sent ++ take n rest;
-  parted = s.parted ∙ ap (λ l. s.sent ++ l) (sym (take-append-drop n rest)) ∙ sym (append_assoc s.sent (take n rest) (drop n rest))
-      ∙ ap (λ l. (s.sent ++ take n rest) ++ l) (sym (take_rest rest n));
-  written = appends_more old mid new s.sent (take n rest) s.written more;
-}
-
-pub sent_kept : (bytes rest : List ℕ) (old mid new : Option (List ℕ)) → IsSent bytes rest old mid → Keeps mid new → IsSent bytes rest old new
-sent_kept bytes rest old mid new s kept = record { sent = s.sent; parted = s.parted; written = appends_kept old mid new s.sent s.written kept }
-
-pub sent_front : (bytes rest : List ℕ) (old now : Option (List ℕ)) → IsSent bytes rest old now → WritesFront bytes old now
+pub sent_front : (bytes rest : List ℕ) (old now : Option (List ℕ)) → IsSent bytes rest old now → AppendsFront old now [] bytes
 sent_front bytes rest old now s = record { sent = s.sent; unsent = rest; parted = s.parted; written = s.written }
 
 -- the next part is written whole
@@ -51,8 +32,8 @@ sent_part bytes part rest old mid new s more = record {
 }
 
 -- a front of the next part is written
-pub sent_cut : (bytes part rest : List ℕ) (old mid new : Option (List ℕ)) → IsSent bytes (part ++ rest) old mid → WritesFront part mid new
-    → WritesFront bytes old new
+pub sent_cut : (bytes part rest : List ℕ) (old mid new : Option (List ℕ)) → IsSent bytes (part ++ rest) old mid → AppendsFront mid new [] part
+    → AppendsFront old new [] bytes
 sent_cut bytes part rest old mid new s cut = record {
   sent = s.sent ++ cut.sent;
   unsent = cut.unsent ++ rest;

@@ -1,5 +1,4 @@
 pub mod Telling
-pub mod Outcome
 pub mod Reading
-pub mod Reasons
 pub mod Attending
+pub mod inner

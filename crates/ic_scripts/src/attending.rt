@@ -3,8 +3,7 @@
 ghost use Rattle.std.specs.Prelude.{◌≡◌, map, vec_items, OnOk, IsTrue};
 ghost use Rattle.ic_book.specs.Book.{disk_of, table_of};
 ghost use Rattle.ic_book.specs.Refusals.{CountsBook};
-ghost use Rattle.ic_scripts.specs.Attending.{HasTable, IsAttended, IsTold};
-ghost use Rattle.ic_scripts.specs.Reasons.{IsKeptAndClosed, KeepTells};
+ghost use Rattle.ic_scripts.specs.Attending.{HasTable, IsAttended, IsTold, IsKeptAndClosed, KeepTells};
 
 use crate::ends::outcome;
 use crate::fault::{ScriptsFault, without_history};

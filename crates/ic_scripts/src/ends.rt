@@ -2,7 +2,7 @@
 
 ghost use Rattle.std.specs.Prelude.{◌≡◌, slice_get};
 ghost use Rattle.std.specs.List.{filter_map};
-ghost use Rattle.ic_scripts.specs.Outcome.{IsFirstOf, client_fault, faults_of, runner_fault};
+ghost use Rattle.ic_scripts.specs.Telling.{IsFirstOf, client_fault, faults_of, runner_fault};
 
 use crate::fault::ScriptsFault;
 use ic_attend::{ClientRun, RunnerEnd};

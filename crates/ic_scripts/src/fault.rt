@@ -2,7 +2,7 @@
 
 ghost use Rattle.std.specs.Prelude.{◌≡◌};
 ghost use Rattle.ic_book.specs.Book.{disk_of};
-ghost use Rattle.ic_scripts.specs.Outcome.{disk_left, fault_of_attendance};
+ghost use Rattle.ic_scripts.specs.inner.Without.{disk_left, fault_of_attendance};
 
 use ic_attend::{AttendFault, Attended};
 use ic_book::{BookFault, OpenCause};

@@ -14,9 +14,8 @@ ghost use Rattle.ic_attend.specs.declared.attended.ClientRun.{ClientRun};
 ghost use Rattle.ic_attend.specs.declared.attended.RunnerEnd.{RunnerEnd};
 ghost use Rattle.ic_attend.specs.declared.attended.RunnerEnd.TheVariants as runner;
 ghost use Rattle.ic_scripts.specs.declared.fault.ScriptsFault.{ScriptsFault};
-ghost use Rattle.ic_scripts.specs.declared.fault.ScriptsFault.TheVariants.{Book, Pool, Script, Memory as WantsMemory};
-ghost use Rattle.ic_scripts.specs.Telling.{answer_line, stop_line, told};
-ghost use Rattle.ic_scripts.specs.Outcome.{IsFirstOf, faults_of, runner_fault};
+ghost use Rattle.ic_scripts.specs.declared.fault.ScriptsFault.TheVariants.{Book, Script, Memory as WantsMemory};
+ghost use Rattle.ic_scripts.specs.Telling.{answer_line, stop_line, told, IsFirstOf, faults_of, runner_fault};
 ghost use Rattle.ic_scripts.specs.Reading.{AddsScript, AreScripts, IsRefusal};
 
 /// Clients are told in their order, each after a line with its number from 0: a line for each

@@ -13,7 +13,6 @@ pub mod laws;
 mod reading;
 mod telling;
 mod words;
-mod writing;
 
 pub use attending::attend_scripts;
 pub use ends::outcome;

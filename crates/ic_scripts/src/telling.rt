@@ -4,15 +4,16 @@ ghost use Rattle.std.specs.Prelude.{◌≡◌, ◌⊎◌, ◌++◌, ◌∷◌, [
 ghost use Rattle.std.specs.List.{flat_map};
 ghost use Rattle.std.specs.Io.KnownBytes.{Appends};
 ghost use Rattle.ic_commands.specs.ReplyText.{reply_text};
-ghost use Rattle.ic_scripts.specs.Telling.{WritesFront, answer_line, client_line, stop_line, told, told_client};
+ghost use Rattle.ic_output.specs.Output.{AppendsFront};
+ghost use Rattle.ic_scripts.specs.Telling.{answer_line, client_line, stop_line, told, told_client};
 
 use crate::fault::ScriptsFault;
 use crate::words::book_word;
-use crate::writing::write_bytes;
 use ic_attend::ClientRun;
 use ic_book::BookFault;
 use ic_commands::print_reply;
 use ic_jobs::{Command, Reply};
+use ic_output::write_whole;
 use std::alloc::{AllocError, Global};
 use std::io::Write;
 
@@ -22,7 +23,7 @@ pub fn tell<W: Write>(alloc: Global, runs: &[ClientRun], writer: &mut W) -> Resu
     ensures told { OnOk result
         (Appends (W.contents writer.old) (W.contents writer.new) (told runs.now)) }
     ensures cut { OnErr result
-        (WritesFront (told runs.now) (W.contents writer.old) (W.contents writer.new)) }
+        (AppendsFront (W.contents writer.old) (W.contents writer.new) [] (told runs.now)) }
     ensures fault { IfErr result
         (λ fault. (fault ≡ ScriptsFault.Write) ⊎ (fault ≡ ScriptsFault.Memory)) }
 {
@@ -41,8 +42,8 @@ fn tell_client<W: Write>(
 ) -> Result<(), ScriptsFault>
     ensures told { OnOk result
         (Appends (W.contents writer.old) (W.contents writer.new) (told_client place run.now)) }
-    ensures cut { OnErr result (WritesFront (told_client place run.now)
-        (W.contents writer.old) (W.contents writer.new)) }
+    ensures cut { OnErr result (AppendsFront (W.contents writer.old) (W.contents writer.new) []
+        (told_client place run.now)) }
     ensures fault { IfErr result
         (λ fault. (fault ≡ ScriptsFault.Write) ⊎ (fault ≡ ScriptsFault.Memory)) }
 {
@@ -61,8 +62,8 @@ fn tell_answers<W: Write>(
 ) -> Result<(), ScriptsFault>
     ensures told { OnOk result (Appends (W.contents writer.old) (W.contents writer.new)
         (flat_map answer_line answers.now)) }
-    ensures cut { OnErr result (WritesFront (flat_map answer_line answers.now)
-        (W.contents writer.old) (W.contents writer.new)) }
+    ensures cut { OnErr result (AppendsFront (W.contents writer.old) (W.contents writer.new) []
+        (flat_map answer_line answers.now)) }
     ensures fault { IfErr result
         (λ fault. (fault ≡ ScriptsFault.Write) ⊎ (fault ≡ ScriptsFault.Memory)) }
 {
@@ -103,4 +104,15 @@ fn print_stop(alloc: Global, end: Option<BookFault>) -> Result<Vec<u8>, AllocErr
     line.extend_from_slice(book_word(fault))?;
     line.push(b'\n')?;
     Ok(line)
+}
+
+/// Writes bytes. Where the writer fails, a front of them is written.
+fn write_bytes<W: Write>(writer: &mut W, bytes: &[u8]) -> Result<(), ScriptsFault>
+    ensures written { OnOk result
+        (Appends (W.contents writer.old) (W.contents writer.new) bytes.now) }
+    ensures cut { OnErr result
+        (AppendsFront (W.contents writer.old) (W.contents writer.new) [] bytes.now) }
+    ensures fault { IfErr result (λ fault. fault ≡ ScriptsFault.Write) }
+{
+    write_whole(writer, bytes).map_err(|_| ScriptsFault::Write)
 }

@@ -14,7 +14,7 @@ use Rattle.ic_book.specs.ByCalls.{IsOnMadeDisk}
 use Rattle.ic_book.specs.Left.{HoldsKeptOrAll}
 use Rattle.ic_book.specs.Moves.{brings, closes, keep_move, stops}
 use Rattle.ic_book.specs.Server.{IsCall, IsFound, Server, Step, down, up}
-use Rattle.ic_scripts.specs.Reasons.{IsKeptAndClosed}
+use Rattle.ic_scripts.specs.Attending.{IsKeptAndClosed}
 use Rattle.ic_serving_laws.specs.Attending.{HoldsFrontOf}
 
 -- a file that holds the table of the kept entries or of all holds that of a front

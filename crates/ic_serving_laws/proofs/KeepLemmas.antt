@@ -9,8 +9,8 @@ use Rattle.ic_book.specs.Book.{is_broken}
 use Rattle.ic_book.specs.Refusals.{CountsBook}
 use Rattle.ic_attend.specs.declared.attended.ClientRun.{ClientRun}
 use Rattle.ic_attend.specs.declared.attended.RunnerEnd.{RunnerEnd}
-use Rattle.ic_scripts.specs.Outcome.{client_fault, faults_of, keep_faults, runner_fault}
-use Rattle.ic_scripts.specs.Reasons.{KeepTells}
+use Rattle.ic_scripts.specs.Telling.{client_fault, faults_of, keep_faults, runner_fault}
+use Rattle.ic_scripts.specs.Attending.{KeepTells}
 
 nothing_after : {A : Type 0} (xs ys : List A) → xs ++ ys ≡ [] → ys ≡ []
 nothing_after [] ys is = is

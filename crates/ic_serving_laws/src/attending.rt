@@ -31,10 +31,9 @@ ghost use Rattle.ic_attend.specs.Faults.{IsAsOpened, IsStopped, IsTorn, IsUnopen
 ghost use Rattle.ic_attend.specs.OneHistory.{IsOneHistory};
 ghost use Rattle.ic_scripts.specs.declared.fault.ScriptsFault.{ScriptsFault};
 ghost use Rattle.ic_scripts.specs.declared.fault.ScriptsFault.TheVariants.{Memory, NoThread, Open, Read, Torn, Write};
-ghost use Rattle.ic_scripts.specs.Attending.{HasHistory, IsAttended, IsTold, IsToldFault, IsToldPart};
-ghost use Rattle.ic_scripts.specs.Outcome.{faults_of};
-ghost use Rattle.ic_scripts.specs.Reasons.{KeepTells, SaysWhy};
-ghost use Rattle.ic_scripts.specs.Telling.{WritesFront, told};
+ghost use Rattle.ic_scripts.specs.Attending.{HasHistory, IsAttended, IsTold, IsToldFault, IsToldPart, KeepTells, SaysWhy};
+ghost use Rattle.ic_scripts.specs.Telling.{faults_of, told};
+ghost use Rattle.ic_output.specs.Output.{AppendsFront};
 ghost use Rattle.ic_serving_laws.specs.Attending.{AttendedOver, HoldsFrontOf};
 ghost use Rattle.ic_serving_laws.specs.Served.{BookOver};
 
@@ -187,10 +186,10 @@ pub fn scripts_are_told_so<D: Disk>(left: &D)
         × Within (D.image left.now) (IsHeld (the_table (table_of a.book)))) }
     ensures first { (runs : List ClientRun) (faults : List ScriptsFault) (fault : ScriptsFault)
         (old new : Option (List ℕ)) → IsToldFault runs faults fault old new
-        → (slice_get faults 0 ≡ Some fault) × WritesFront (told runs) old new }
+        → (slice_get faults 0 ≡ Some fault) × AppendsFront old new [] (told runs) }
     ensures part { (runs : List ClientRun) (faults : List ScriptsFault) (fault : ScriptsFault)
         (old new : Option (List ℕ)) → IsToldPart runs faults fault old new
-        → (faults ≡ []) × ((fault ≡ Write) ⊎ (fault ≡ Memory)) × WritesFront (told runs) old new }
+        → (faults ≡ []) × ((fault ≡ Write) ⊎ (fault ≡ Memory)) × AppendsFront old new [] (told runs) }
     ensures history { (disk : D) (scripts : List (List Command)) (runners turns workers : ℕ)
         (a : AttendedOver D.Disk) → HasHistory disk scripts runners turns workers a
         → IsOneHistory scripts runners turns a × EndsTell workers a }

@@ -1,5 +1,5 @@
 use Rattle.std.proofs.Common.{inl, inr, subst, sym}
-use Rattle.ic_scripts.specs.Reasons.{SaysWhy}
+use Rattle.ic_scripts.specs.Attending.{SaysWhy}
 use Rattle.ic_scripts.proofs.ReasonLemmas.{keeps_same, says_why}
 use Rattle.ic_scripts.proofs.attending.attend_scripts.Goals as goal
 

@@ -1,6 +1,6 @@
 use Rattle.std.proofs.Common.{ap, sym}
 use Rattle.std.specs.Prelude.{option_map}
-use Rattle.ic_scripts.specs.Outcome.{client_fault}
+use Rattle.ic_scripts.specs.Telling.{client_fault}
 use Rattle.ic_scripts.specs.declared.fault.ScriptsFault.TheVariants.{Book}
 use Rattle.ic_scripts.proofs.FirstLemmas.{found_first, none_more}
 use Rattle.ic_scripts.proofs.ends.first_client.Goals as goal

@@ -1,6 +1,6 @@
 use Rattle.std.proofs.Common.{◌≡◌, [], take}
 use Rattle.std.specs.List.{filter_map}
-use Rattle.ic_scripts.specs.Outcome.{client_fault}
+use Rattle.ic_scripts.specs.Telling.{client_fault}
 use Rattle.ic_scripts.proofs.ends.first_client.Given as goal
 
 -- the clients before this one finished

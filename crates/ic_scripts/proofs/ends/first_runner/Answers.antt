@@ -1,6 +1,6 @@
 use Rattle.std.proofs.Common.{◌∙◌, sym}
 use Rattle.std.proofs.lemmas.List.{get_or_default}
-use Rattle.ic_scripts.specs.Outcome.{runner_fault}
+use Rattle.ic_scripts.specs.Telling.{runner_fault}
 use Rattle.ic_scripts.proofs.FirstLemmas.{found_first, none_more}
 use Rattle.ic_scripts.proofs.ends.first_runner.Goals as goal
 

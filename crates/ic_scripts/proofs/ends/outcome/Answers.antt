@@ -1,6 +1,6 @@
 use Rattle.std.proofs.Common.{◌∙◌, List, ap, sym}
 use Rattle.std.specs.Prelude.{slice_get}
-use Rattle.ic_scripts.specs.Outcome.{keep_faults}
+use Rattle.ic_scripts.specs.Telling.{keep_faults}
 use Rattle.ic_scripts.specs.declared.fault.ScriptsFault.{ScriptsFault}
 use Rattle.ic_scripts.proofs.FirstLemmas.{keep_alone}
 use Rattle.ic_scripts.proofs.ends.outcome.Goals as goal

@@ -3,7 +3,7 @@ use Rattle.std.specs.Prelude.{Result, Ok, Err, IsOk, option_map, slice_get}
 use Rattle.ic_book.specs.declared.fault.BookFault.{BookFault}
 use Rattle.std.specs.List.{AllByRecursion, filter_map}
 use Rattle.ic_attend.specs.declared.attended.ClientRun.{ClientRun}
-use Rattle.ic_scripts.specs.Outcome.{IsFirstOf, client_fault, keep_faults, runner_fault}
+use Rattle.ic_scripts.specs.Telling.{IsFirstOf, client_fault, keep_faults, runner_fault}
 use Rattle.ic_scripts.specs.declared.fault.ScriptsFault.{ScriptsFault}
 use Rattle.ic_scripts.specs.declared.fault.ScriptsFault.TheVariants.{Book}
 use Rattle.ic_scripts.proofs.FirstLemmas.{first_told, none_all, none_before}

@@ -1,7 +1,8 @@
-use Rattle.std.proofs.Common.{◌≡◌, ◌∙◌, ◌+◌, ◌++◌, ℕ, List, drop, subst}
+use Rattle.std.proofs.Common.{◌≡◌, ◌∙◌, ◌+◌, ◌++◌, [], ℕ, List, drop, subst}
 use Rattle.std.specs.List.{flat_map}
 use Rattle.std.specs.Io.KnownBytes.{Appends}
-use Rattle.ic_scripts.specs.Telling.{WritesFront, answer_line}
+use Rattle.ic_output.specs.Output.{AppendsFront}
+use Rattle.ic_scripts.specs.Telling.{answer_line}
 use Rattle.ic_scripts.proofs.OnFault.{on_err}
 use Rattle.ic_scripts.proofs.Sending.{IsSent, sent_cut, sent_part}
 use Rattle.ic_scripts.proofs.ToldLemmas.{flat_next}
@@ -20,7 +21,7 @@ returns-in_err-write_bytes-clause-cut g c =
     let line : c.deref.result.now ≡ answer_line a = c.deref.ensures.value ∙ c.in_ok-line.ensures in
     let sent : IsSent total (answer_line a ++ rest) old mid =
     subst (λ (l : List ℕ). IsSent total l old mid) (flat_next answer_line answers i a c.loop-answer-test.true c.answer-item.is) c.loop-answer.invariant in
-    on_err _ _ (sent_cut total (answer_line a) rest old mid new sent (subst (λ (l : List ℕ). WritesFront l mid new) line c.in_err-write_bytes.ensures.cut))
+    on_err _ _ (sent_cut total (answer_line a) rest old mid new sent (subst (λ (l : List ℕ). AppendsFront mid new [] l) line c.in_err-write_bytes.ensures.cut))
 
 pub loop-answer-preserved : goal.loop-answer-preserved
 loop-answer-preserved g c =

@@ -1,5 +1,0 @@
-use Rattle.ic_scripts.proofs.Sending.{IsSent}
-use Rattle.ic_scripts.proofs.writing.write_bytes.Given as goal
-
-abbrev pub invariant-loop : goal.invariant-loop
-invariant-loop g l = IsSent l.initial.rest l.rest (g.W.Write.contents l.fn.writer) (g.W.Write.contents l.writer)
