@@ -1,20 +1,22 @@
 //! Laws of the definitions that say what a stop in a serving leaves.
 
-ghost use Rattle.std.specs.Prelude.{◌≡◌, ◌≢◌, ◌↔◌, ◌<◌, ◌≤◌, ℕ, List, [], ◌∷◌, ◌++◌, IsTrue, length};
+ghost use Rattle.std.specs.Prelude.{◌≡◌, ◌≢◌, ◌↔◌, ◌<◌, ◌≤◌, ℕ, List, [], ◌∷◌, ◌++◌, Ok, Err, IsTrue, length};
 ghost use Rattle.ic_disk.specs.Images.{Within};
 ghost use Rattle.ic_disk.specs.Time.{OneMore};
 ghost use Rattle.ic_frames.specs.declared.faults.OpenCause.{OpenCause};
 ghost use Rattle.ic_frames.specs.declared.faults.OpenCause.TheVariants.{Device};
+ghost use Rattle.ic_frames.specs.declared.faults.OpenFault.{OpenFault};
 ghost use Rattle.ic_jobs.specs.Job.{JobParts};
 ghost use Rattle.ic_frames.specs.Fields.{IsMade};
 ghost use Rattle.ic_slots.specs.Held.{IsHeld, the_table};
-ghost use Rattle.ic_book.specs.Moves.{Move, stops};
-ghost use Rattle.ic_book.specs.Server.{IsFound, Refuses, Server, Step, disk_in, down};
+ghost use Rattle.ic_book.specs.Moves.{Move, opens, refuses, stops};
+ghost use Rattle.ic_book.specs.Server.{IsFound, Refuses, Server, Step, StepsByOpening, disk_in, down, up};
 ghost use Rattle.ic_lines.specs.Serving.{IsServed};
 ghost use Rattle.ic_serving.specs.Parts.{IsInLine};
 ghost use Rattle.ic_serving.specs.Served.{MayBeServed};
 ghost use Rattle.ic_serving.specs.Stopped.{HoldsOne, IsReached, MayStand};
 
+use ic_book::Book;
 use ic_disk::Disk;
 
 /// A stop in the midst of any move that isn't one itself is a step: of an opening, also one that is
@@ -30,6 +32,17 @@ pub fn stops_are_steps<D: Disk>(found: &D)
         → IsFound D.Disk before after found.now }
 {
     let _ = found;
+}
+
+/// By its answer an opening is a step: to the book, or, where it is refused, to the disk that comes back.
+pub fn an_opening_is_a_step_by_its_answer<D: Disk>(disk: &D, book: &Book<D>)
+    ensures opened { StepsByOpening D.Disk disk.now (Ok book.now)
+        → Step opens (down disk.now) (up book.now) }
+    ensures refused { (fault : OpenFault D) → StepsByOpening D.Disk disk.now (Err fault)
+        → Step {ghosts = D.Disk} (refuses fault.cause) (down disk.now) (down fault.disk) }
+{
+    let _ = disk;
+    let _ = book;
 }
 
 /// An opening that is refused counts a failure of the disk exactly where it tells of one.
