@@ -17,20 +17,21 @@ check: # the gate, ./gate: proves all from nothing, and tries edits, rows and th
 	./gate
 trials: # tries the program that ./icserve runs
 	ICSERVE=$$(ICSERVE_BUILD=found ./icserve) python3 trials
-install: # puts the program into PREFIX/bin (if not said ~/.local/bin), the proved one where it is there, its scripts, their manual pages and completions, and the Python package
+install: # puts the program into PREFIX/bin (if not said ~/.local/bin), the proved one where it is there, its scripts, their manual pages and completions, the library and the Python package
 	to="$(DESTDIR)$(patsubst ~/%,$(HOME)/%,$(PREFIX))"
 	install -vD "$$(ICSERVE_BUILD=found ./icserve)" "$$to/bin/icserve"
 	for it in film listen send page; do install -vD $$it "$$to/bin/icserve-$$it"; done
 	python3 share/pages.py "$$to/bin/icserve" "$$to"
 	install -vDm 644 -t "$$to/$(PACKAGES)/icserve" python/icserve/*.py python/icserve/py.typed
 	install -vDm 644 -t "$$to/$(PACKAGES)/icserve/page" python/icserve/page/*.*
+	install -vDm 644 -t "$$to/share/icserve/lib" lib/*.rich
 uninstall: # removes from PREFIX what install puts there
 	from="$(DESTDIR)$(patsubst ~/%,$(HOME)/%,$(PREFIX))"
 	for it in icserve icserve-film icserve-listen icserve-send icserve-page; do
 	    rm -fv "$$from/bin/$$it" "$$from/share/man/man1/$$it.1" "$$from/share/bash-completion/completions/$$it" \
 	        "$$from/share/zsh/site-functions/_$$it" "$$from/share/fish/vendor_completions.d/$$it.fish"
 	done
-	rm -rfv "$$from/$(PACKAGES)/icserve"
+	rm -rfv "$$from/$(PACKAGES)/icserve" "$$from/share/icserve"
 dist: # makes a release in out/dist, an archive and a package of Debian: of the proved program, or with UNPROVED=1 of one that isn't
 	rm -rf out/dist
 	if [ -n "$(UNPROVED)" ]; then

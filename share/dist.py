@@ -77,7 +77,7 @@ def moment():
 
 
 def lay(program, root):
-    """Puts what is installed into a folder: programs, pages, completions and the Python package."""
+    """Puts what is installed into a folder: programs, pages, completions, the library and the Python package."""
     (root / "bin").mkdir(parents=True)
     shutil.copy(program, root / "bin/icserve")
     for name, script in pages.SCRIPTS.items():
@@ -88,6 +88,7 @@ def lay(program, root):
         pages.main(str(root / "bin/icserve"), str(root))
     package = root / "lib/python3/dist-packages/icserve"
     shutil.copytree(TOP / "python/icserve", package, ignore=shutil.ignore_patterns("__pycache__"))
+    shutil.copytree(TOP / "lib", root / "share/icserve/lib")
 
 
 def archive(folder, path):

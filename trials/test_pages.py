@@ -41,7 +41,7 @@ class Pages(Trial):
         super().setUp()
         (self.room / "icserve").symlink_to(PROGRAM)
         (self.room / "film").symlink_to(TOP / "film")
-        for it in ("examples", "cluster"):
+        for it in ("examples", "lib", "cluster"):
             (self.room / it).symlink_to(TOP / it)
 
     def typed(self, page, commands, wanted, streams=subprocess.STDOUT):
