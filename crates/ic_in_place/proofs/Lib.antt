@@ -27,3 +27,4 @@ pub mod RoundsNeeded
 pub mod RoundsTold
 pub mod RoundsEnough
 pub mod Amounts
+pub mod Fired

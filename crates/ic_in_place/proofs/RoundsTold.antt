@@ -57,7 +57,7 @@ round_first rs zero c = refl
 round_first rs (suc k) c = ap (round rs) (round_first rs k c)
 
 -- what the last of some rounds fired
-last_fires : (rs : List Rule) (numbers : List ℕ) (made : List (List ℕ)) (fired : List ℕ) (c : Configuration) → FireAsRounds rs numbers (made ++ fired ∷ []) c
+pub last_fires : (rs : List Rule) (numbers : List ℕ) (made : List (List ℕ)) (fired : List ℕ) (c : Configuration) → FireAsRounds rs numbers (made ++ fired ∷ []) c
     → FireAsRounds rs numbers made c × IsPermutation (map (rule_number numbers) fired) (rules_of rs (iterate rs (length made) c).equations)
 last_fires rs numbers [] fired c fire = (tt, fire.0)
 last_fires rs numbers (f ∷ made) fired c fire =

@@ -17,7 +17,7 @@ ghost use Rattle.ic_round.specs.Rounds.{iterate};
 ghost use Rattle.ic_round.specs.Quiet.{IsQuiet};
 ghost use Rattle.ic_confluence.specs.Agents.{configuration_symbols};
 ghost use Rattle.ic_confluence.specs.Kinds.{Kind, Chain};
-ghost use Rattle.ic_generations.specs.Figures.{amount, arity_of};
+ghost use Rattle.ic_generations.specs.Figures.{amount, amount_made, amount_spent, arity_of};
 ghost use Rattle.ic_reaching.specs.OneNet.{OneNet, SameButNext};
 ghost use Rattle.ic_reaching.specs.Reaching.{Reaches, rules_fired};
 ghost use Rattle.ic_machine.specs.Net.{Net, pieces};
@@ -33,7 +33,7 @@ ghost use Rattle.ic_in_place.specs.declared.running.End.TheVariants.{Quiet, Step
 ghost use Rattle.ic_in_place.specs.declared.stream.Asked.{Asked};
 ghost use Rattle.ic_in_place.specs.declared.stream.Asked.TheVariants.{Nothing};
 ghost use Rattle.ic_in_place.specs.declared.stream.Outcome.{Outcome};
-ghost use Rattle.ic_in_place.specs.Amounts.{all_made, all_spent};
+ghost use Rattle.ic_in_place.specs.Amounts.{all_made, all_spent, by_counts};
 ghost use Rattle.ic_in_place.specs.Counting.{AreCounts, AreNameSteps, TellsNameSteps, arguments_at, name_steps};
 ghost use Rattle.ic_in_place.specs.Reducing.{IsPutTogether, IsReached};
 ghost use Rattle.ic_in_place.specs.Reductions.{EndsAs};
@@ -403,6 +403,23 @@ pub fn amounts_are_those_of_rounds()
         + amount (arity_of rs.symbols) (iterate rs.rules n c) }
     ensures names { (c : Configuration) → length (configuration_names c)
         + length (configuration_symbols c) ≡ configuration_nodes c }
+{
+    ic_round::laws::chains_are_steps();
+    ic_round::laws::rounds_are_steps();
+    ic_generations::laws::figures_add_up_over_agents();
+}
+
+/// Of each round that is told this holds of the counts of its net: what the rules of the plans made and spent that fired so often is
+/// what agents amount to after the round, beside what they amounted to in the text.
+pub fn counts_tell_the_amounts_of_rounds()
+    ensures { (limits : Limits) (most : ℕ) (asked : Asked) (input line : List ℕ) (reached : Rounded)
+        (f : ℕ → ℕ) → (is : EndsByRounds limits most asked input reached line)
+        → AllByRecursion (λ o. amount f
+        (iterate is.system.rules.rules o.round is.system.config)
+        + by_counts (amount_spent f is.system.rules.rules) is.rounded.come.rule_numbers o.net.counts 0
+        ≡ amount f is.system.config
+        + by_counts (amount_made f is.system.rules.rules) is.rounded.come.rule_numbers o.net.counts 0)
+        is.rounded.ends.told }
 {
     ic_round::laws::chains_are_steps();
     ic_round::laws::rounds_are_steps();
