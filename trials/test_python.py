@@ -12,6 +12,7 @@ import signal
 import subprocess
 import sys
 import threading
+import time
 
 from known import ADD, LOOP, TWO
 from program import IN_MEMORY, PATIENCE, PROGRAM, TOP, Trial, run
@@ -153,6 +154,21 @@ class Servers(Package):
                 for it in threads:
                     it.join()
                 self.equals("4 threads", "a further answer", 8, len(server.list()))
+
+    def test_a_shared_server_that_is_begun_just_after_is_found(self):
+        disk, path, came = self.disk(), self.room / "socket", []
+
+        def ask():
+            with self.icserve.Server(socket=path) as server:
+                came.append(server.list())
+
+        client = threading.Thread(target=ask)
+        client.start()
+        time.sleep(0.5)
+        with Listening(disk, path):
+            client.join()
+        self.equals("Server(socket=..)", "the jobs", [[]], came)
+        self.raised(FileNotFoundError, self.icserve.Server, socket=self.room / "none")
 
     def test_a_server_that_ends_is_told_of(self):
         server = self.icserve.Server(self.room / "jobs.disk")

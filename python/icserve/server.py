@@ -4,6 +4,7 @@ import os
 import socket
 import subprocess
 import threading
+import time
 from pathlib import Path
 from typing import IO, Any, Dict, List, NamedTuple, Optional, Union
 
@@ -81,7 +82,15 @@ class Server:
 
     def _connect(self, path: str) -> None:
         there = socket.socket(socket.AF_UNIX)
-        there.connect(path)
+        for _ in range(30):
+            # It may have been begun just now.
+            try:
+                there.connect(path)
+                break
+            except (FileNotFoundError, ConnectionRefusedError):
+                time.sleep(0.1)
+        else:
+            there.connect(path)
         self._given = self._came = there.makefile("rwb")
         there.close()
 
