@@ -13,7 +13,7 @@ ghost use Rattle.ic_naming.specs.Naming.{renumbered};
 ghost use Rattle.ic_streams.specs.Streams.{line_of};
 ghost use Rattle.ic_streams.specs.Stuck.{stuck_text};
 ghost use Rattle.ic_in_place.specs.declared.running.Bounds.{Bounds};
-ghost use Rattle.ic_in_place.specs.declared.running.End.TheVariants.{Quiet};
+ghost use Rattle.ic_in_place.specs.declared.running.End.TheVariants.{Quiet, Steps};
 ghost use Rattle.ic_in_place.specs.declared.stream.Asked.{Asked};
 ghost use Rattle.ic_in_place.specs.declared.stream.Outcome.{Outcome};
 ghost use Rattle.ic_in_place.specs.Counting.{name_steps};
@@ -64,6 +64,19 @@ pub fn an_outcome_says_what_was_reached()
         → (outcome.name_steps ≡ None)
         × (option_map (λ text. text.items) outcome.stuck ≡ None) }
 {}
+
+/// Where some order ends quiet by at most as many interactions as may be made, that bound ends no reduction: at `Steps` each
+/// order that ends quiet takes more. That is so by however many threads.
+pub fn an_order_within_the_bound_is_not_cut()
+    ensures { (s : SystemParts) (bounds : Bounds) (asked : Asked) (outcome : Outcome)
+        (line : List ℕ) (e : Configuration) (kinds : List Kind)
+        → EndsOf s bounds asked outcome line → outcome.end ≡ Steps
+        → Chain s.rules.rules kinds s.config e → IsQuiet s.rules.rules e
+        → bounds.steps < length (rules_fired kinds) }
+{
+    ic_in_place::laws::what_a_stop_says();
+    ic_confluence::laws::every_order_ends_in_the_same_net();
+}
 
 /// A reduction may be cut and gone on with, by however many threads each time. What is reached from an answer, or from what is
 /// one net with it, is reached from the beginning, and the interactions add up. Where it ends quiet, it is the net of every
