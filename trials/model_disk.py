@@ -18,6 +18,8 @@ from model import (
 
 MAX_LINES = 1_000_000
 MAX_ENTRIES = 65_536
+# What a page weighs before a new one begins, and what its entries weigh, if it isn't 1.
+PAGE_WEIGHT, WEIGHTS = 65_536, {"submit": 512, "fetch": 512, "list": 2}
 MAX_BODY = 3_036_677
 SECOND_SLOT, HEAD = 4_194_304, 13
 MAX_NUMBER = 2**64 - 1
@@ -232,7 +234,7 @@ class Server:
     def __init__(self, disk, every=100):
         self.disk, self.every = disk, every
         self.table = disk.open()
-        self.entries = self.kept = 0
+        self.entries = self.kept = self.weight = 0
 
     def keep(self):
         if self.kept < self.entries:
@@ -240,10 +242,10 @@ class Server:
             self.kept = self.entries
 
     def make_room(self):
-        """Begins a new page where the log is full."""
-        if self.entries == MAX_ENTRIES:
+        """Begins a new page where the entries of this one weigh too much."""
+        if self.weight >= PAGE_WEIGHT:
             self.keep()
-            self.entries = self.kept = 0
+            self.entries = self.kept = self.weight = 0
 
     def command(self, *asked):
         if self.disk.number == MAX_NUMBER:
@@ -251,6 +253,7 @@ class Server:
         self.make_room()
         answer = self.table.apply(*asked)
         self.entries += 1
+        self.weight += WEIGHTS.get(asked[0], 1)
         if answer in ("accepted", "ok"):
             self.keep()
         self.kept = self.entries
@@ -262,6 +265,7 @@ class Server:
             self.make_room()
             self.table.jobs[place].move()
             self.entries += 1
+            self.weight += 1
             made += 1
             after = place + 1
             if made % self.every == 0:

@@ -1,9 +1,11 @@
 """What no contract bounds: the memory and the time that the program takes. Times are told as those of a fixed work in the same
 run, so that a busy machine doesn't fail a trial."""
 
+import contextlib
 import os
 import re
 import subprocess
+import threading
 import time
 from pathlib import Path
 
@@ -31,10 +33,31 @@ class Bounds(Trial):
 
     def taken(self, *words, given=b"", status=0):
         """Runs the program on a file of this text: the most bytes of memory that it took, and its seconds of a processor."""
-        path, most, reaped = self.room / "text", 0, 0
+        path = self.room / "text"
         path.write_bytes(given if isinstance(given, bytes) else given.encode())
         with path.open("rb") as file:
-            started = subprocess.Popen([PROGRAM, *map(str, words)], stdin=file, stdout=subprocess.DEVNULL, stderr=subprocess.DEVNULL)
+            return self.watched(words, file, status)
+
+    def taken_of(self, *words, lines, times):
+        """The same of lines that come so many times, by a pipe."""
+        out, into = os.pipe()
+
+        def write():
+            with contextlib.suppress(BrokenPipeError), open(into, "wb") as pipe:
+                for _ in range(times):
+                    pipe.write(lines)
+
+        writing = threading.Thread(target=write)
+        writing.start()
+        try:
+            with open(out, "rb") as pipe:
+                return self.watched(words, pipe, 0)
+        finally:
+            writing.join()
+
+    def watched(self, words, file, status):
+        most, reaped = 0, 0
+        started = subprocess.Popen([PROGRAM, *map(str, words)], stdin=file, stdout=subprocess.DEVNULL, stderr=subprocess.DEVNULL)
         while not reaped:
             # The memory that `wait4` tells has that of this process in it, as it was before the program was loaded.
             found = re.search(r"VmHWM:\s+(\d+)", Path(f"/proc/{started.pid}/status").read_text())
@@ -78,6 +101,20 @@ class Bounds(Trial):
         lines = f"submit a {LOOP.text}\nrun 1\ncancel a\n" * 20_000
         memory, _ = self.taken("serve", "--disk", self.disk(), given=lines)
         self.below("bytes of 20,000 jobs that come and go", 200 * MEGABYTE, memory)
+
+    def test_a_server_of_large_submits_and_cancels_takes_little_memory(self):
+        """Each text of 24,000 bytes takes 60,000 bytes while the page goes on that has its submit."""
+        text = "{} <|" + ",".join(["ABCDA(ABCDB,ABCDC)=ABCDD(ABCDE)"] * 750) + ">"
+        lines = f"submit a {text}\ncancel a\n".encode()
+        memory, _ = self.taken_of("serve", "--disk", self.disk(), "--group", 64, lines=lines, times=20_000)
+        self.below("bytes of 20,000 large jobs that come and go", 200 * MEGABYTE, memory)
+
+    def test_a_server_that_shows_a_large_job_after_each_round_takes_little_memory(self):
+        """Each configuration that is shown takes 128,000 bytes while the page goes on that has its fetch."""
+        disk, text = self.disk(), "{A(B(x))><B(A(x))} <|A(x)=B(x)," + ",".join(["C(D,E)=F(G)"] * 1_600) + ">"
+        self.taken("serve", "--disk", disk, given=f"submit a {text}\n")
+        memory, _ = self.taken_of("serve", "--disk", disk, lines=b"run 1\nfetch a\n", times=3_000)
+        self.below("bytes of a job that is shown 3,000 times", 200 * MEGABYTE, memory)
 
     def test_twice_the_text_takes_twice_the_time(self):
         def numeral(count):

@@ -1,14 +1,12 @@
 -- How many calls to the disk are made.
-use Rattle.std.proofs.Common.{◌≡◌, ◌≢◌, ◌⊎◌, inl, inr, ℕ, zero, suc, ◌+◌, ◌-◌, ◌*◌, ◌<◌, ◌≤◌, ◌/◌, ◌%◌, ◌^◌, List, [], ◌∷◌, Bool, true, false, ◌&&◌, Some, length, refl, sym, ap, ap₂, subst, ◌∙◌, arith, true≢false, length-append}
+use Rattle.std.proofs.Common.{◌≡◌, ◌≢◌, ◌⊎◌, inl, inr, ℕ, zero, suc, ◌+◌, ◌-◌, ◌*◌, ◌<◌, ◌≤◌, ◌/◌, ◌%◌, ◌^◌, List, [], ◌∷◌, Bool, true, false, ◌&&◌, Some, length, refl, sym, ap, ap₂, subst, ◌∙◌, arith, true≢false}
 use Rattle.std.specs.Prelude.{IsSome, Option, nat_lt, if◌then◌else◌}
 use Rattle.std.specs.List.{AllByRecursion}
 use Rattle.std.proofs.lemmas.Nat.{div-add-mod', div_below, le-div}
 use Rattle.std.proofs.Math.Nat.{mod-eq_of_lt}
-use Rattle.std.proofs.lemmas.List.{length-map}
 use Rattle.ic_disk.specs.declared.disk.Disk.{Ghosts}
 use Rattle.ic_slots.specs.declared.keeper.Keeper.{Keeper}
 use Rattle.ic_slots.specs.Keeper as keeper_parts
-use Rattle.ic_jobs.specs.declared.event.Entry.{Entry}
 use Rattle.ic_jobs.specs.declared.event.Event.{Event}
 use Rattle.ic_jobs.specs.declared.state.State.{State}
 use Rattle.ic_jobs.specs.declared.state.State.TheVariants.{Running, Paused, Done, Halted, Spent}
@@ -16,9 +14,12 @@ use Rattle.ic_jobs.specs.State.{is_running, state_eq}
 use Rattle.ic_jobs.specs.Job.{JobParts, can_move, moved, in_state}
 use Rattle.ic_jobs.specs.Table.{IsTable, is_named, job_named, with_changed}
 use Rattle.ic_book.specs.declared.book.Book.{Book}
-use Rattle.ic_book.specs.declared.limits.TheConstants.{MAX_ENTRIES}
+use Rattle.ic_book.specs.declared.limits.TheConstants.{SYSTEM_WEIGHT}
+use Rattle.ic_book.specs.Weight.{weigh, weight, weight_of}
+use Rattle.ic_serving.specs.declared.limits.TheConstants.{PAGE_WEIGHT}
+use Rattle.ic_book.specs.lemmas.Weights.{weigh_first, weigh_on}
 use Rattle.ic_book.specs.Book.{disk_of, keeper_of, log_of, table_of}
-use Rattle.ic_serving.specs.Grown.{GoesOn, IsSamePage}
+use Rattle.ic_serving.specs.Grown.{GoesOn, HasRoom, HasSpare, IsSamePage}
 use Rattle.ic_batch.specs.declared.jobs.NewJob.{NewJob}
 use Rattle.ic_batch.specs.Calls.{CallsFew, come_to, events_in, events_of}
 use Rattle.ic_batch.specs.inner.Staying.{HaveCome}
@@ -208,13 +209,13 @@ calls_step made every old clock mid new some so_far same six stays = elim (none_
 ]
 
 -- a count that stays so small doesn't begin anew
-no_wrap : (log made count : ℕ) → made ≤ count → log + (count + 1) < MAX_ENTRIES → (made + 1) % 2 ^ 64 ≡ made + 1
+no_wrap : (log made count : ℕ) → made ≤ count → log + (count + 1) < PAGE_WEIGHT → (made + 1) % 2 ^ 64 ≡ made + 1
 no_wrap log made count few room = mod-eq_of_lt (omega (arith, few, room))
 
-one_room : (log made events more : ℕ) → made ≤ events → events + 1 ≤ more → log + more < MAX_ENTRIES → log + made < MAX_ENTRIES
+one_room : (log made events more : ℕ) → made ≤ events → events + 1 ≤ more → log + more < PAGE_WEIGHT → log + made < PAGE_WEIGHT
 one_room log made events more few one room = omega (arith, few, one, room)
 
-less_room : (log events more : ℕ) → events + 1 ≤ more → log + more < MAX_ENTRIES → log + events < MAX_ENTRIES
+less_room : (log events more : ℕ) → events + 1 ≤ more → log + more < PAGE_WEIGHT → log + events < PAGE_WEIGHT
 less_room log events more one room = omega (arith, one, room)
 
 -- no jobs have made no events
@@ -223,13 +224,13 @@ to_none [] = refl
 to_none (x ∷ xs) = refl
 
 -- what few calls are, by numbers of submits and of events
-pub calls_so : (log every submits events before now made old new : ℕ) → (log + ((now - before) + made) < MAX_ENTRIES → new ≤ old + 6 * ((now - before) + made / every + 1))
-    → now ≡ before + submits → made ≡ events → log + (submits + events) < MAX_ENTRIES → new ≤ old + 6 * (submits + events / every + 1)
+pub calls_so : (log every submits events before now made old new : ℕ) → (log + (SYSTEM_WEIGHT * (now - before) + made) < PAGE_WEIGHT → new ≤ old + 6 * ((now - before) + made / every + 1))
+    → now ≡ before + submits → made ≡ events → log + (512 * submits + events) < 65536 → new ≤ old + 6 * (submits + events / every + 1)
 calls_so log every submits events before now made old new few longer is room =
     let came : now - before ≡ submits = omega (arith, longer) in
-    let both : (now - before) + made ≡ submits + events = ap₂ (λ (x y : ℕ). x + y) came is in
+    let both : SYSTEM_WEIGHT * (now - before) + made ≡ 512 * submits + events = ap₂ (λ (x y : ℕ). 512 * x + y) came is in
     subst (λ (k : ℕ). new ≤ old + 6 * (k + 1)) (ap₂ (λ (x y : ℕ). x + y / every) came is)
-    (few (subst (λ (k : ℕ). log + k < MAX_ENTRIES) (sym both) room))
+    (few (subst (λ (k : ℕ). log + k < PAGE_WEIGHT) (sym both) room))
 
 -- ---- of rounds over a book
 
@@ -240,26 +241,26 @@ module _ {D : Type 0} {ghosts : Ghosts D} where
   clock_stays : (old new : Book D ghosts) → new ≡ old → ghosts.clock (disk_of new) ≡ ghosts.clock (disk_of old)
   clock_stays old new same = ap (λ (b : Book D ghosts). ghosts.clock (disk_of b)) same
 
-  -- how long the log is after one event
-  one_longer : (e : Event) (old new : Book D ghosts) → GoesOn (e ∷ []) old new → length (log_of new) ≡ length (log_of old) + 1
+  -- what the log weighs after one event
+  one_longer : (e : Event) (old new : Book D ghosts) → GoesOn (e ∷ []) old new → weight_of (log_of new) ≡ weight_of (log_of old) + weight e
   one_longer e old new goes =
-      let grown = ap length goes.log ∙ length-append (log_of old) goes.entries in
-      let many : length goes.entries ≡ 1 = sym (length-map goes.entries (λ (e : Entry). e.event)) ∙ ap length goes.events in
-      grown ∙ ap (λ n. length (log_of old) + n) many
+      let grown = weigh_on (log_of old) (log_of new) goes.entries (e ∷ []) goes.log goes.events in
+      let one = weigh_first e [] in
+      omega (arith, grown, one)
 
   -- so many rounds and halts were made, and stand in the log
   pub record HaveMade (made every : ℕ) (old new : Book D ghosts) : Type 0 where
     pub few : made ≤ events_in (table_of old) (table_of new)
-    pub log : length (log_of new) ≡ length (log_of old) + made
+    pub log : weight_of (log_of new) ≡ weight_of (log_of old) + made
     pub clock : ghosts.clock (disk_of new) ≤ ghosts.clock (disk_of old) + 6 * (made / every)
 
   abbrev pub RoomFor : Book D ghosts → (t : List JobParts) → Type 0
-  RoomFor old t = length (log_of old) + events_in (table_of old) t < MAX_ENTRIES
+  RoomFor old t = weight_of (log_of old) + events_in (table_of old) t < PAGE_WEIGHT
 
   pub made_none : (every : ℕ) (book : Book D ghosts) → HaveMade 0 every book book
   made_none every book = record {
     few = omega arith;
-    log = sum (length (log_of book));
+    log = sum (weight_of (log_of book));
     clock = at_least (ghosts.clock (disk_of book)) (6 * (0 / every));
   }
     where
@@ -268,40 +269,40 @@ module _ {D : Type 0} {ghosts : Ghosts D} where
 
   module _ (made every : ℕ) (old book : Book D ghosts) (some : 0 < every) (so_far : RoomFor old (table_of book) → HaveMade made every old book) where
     -- at a fault before the next one
-    pub calls_then : (new : Book D ghosts) → table_of new ≡ table_of book → (length (log_of book) < MAX_ENTRIES → keeper_of new ≡ keeper_of book) → RoomFor old (table_of new)
+    pub calls_then : (new : Book D ghosts) → table_of new ≡ table_of book → (HasSpare book → keeper_of new ≡ keeper_of book) → RoomFor old (table_of new)
         → ghosts.clock (disk_of new) ≤ ghosts.clock (disk_of old) + 6 * (events_in (table_of old) (table_of new) / every)
     calls_then new same still room =
         let here = so_far (subst (RoomFor old) same room) in
         let less : made ≤ events_in (table_of old) (table_of new) = subst (λ (t : List JobParts). made ≤ events_in (table_of old) t) (sym same) here.few in
         let log = here.log in
-        let spare : length (log_of book) < MAX_ENTRIES = within (length (log_of old)) (length (log_of book)) made (events_in (table_of old) (table_of new)) log less room in
+        let spare : HasSpare book = within (weight_of (log_of old)) (weight_of (log_of book)) made (events_in (table_of old) (table_of new)) log less room in
         not_kept (made / every) (events_in (table_of old) (table_of new) / every) (ghosts.clock (disk_of old)) (ghosts.clock (disk_of book)) (ghosts.clock (disk_of book)) (ghosts.clock (disk_of new))
         (more_parts made (events_in (table_of old) (table_of new)) every some less) here.clock refl (clock_same book new (still spare))
       where
-        within : (a b made n : ℕ) → b ≡ a + made → made ≤ n → a + n < MAX_ENTRIES → b < MAX_ENTRIES
+        within : (a b made n : ℕ) → b ≡ a + made → made ≤ n → a + n < PAGE_WEIGHT → b < PAGE_WEIGHT
         within a b made n is less room = omega (arith, is, less, room)
 
     -- one more round, and a keep where it is due
     pub made_more : (now : ℕ) (e : Event) (mid new : Book D ghosts) → now ≡ (made + 1) % 2 ^ 64 → events_in (table_of old) (table_of book) + 1 ≤ events_in (table_of old) (table_of mid)
-        → (length (log_of book) < MAX_ENTRIES → GoesOn (e ∷ []) book mid) → (length (log_of book) < MAX_ENTRIES → keeper_of mid ≡ keeper_of book)
+        → weight e ≡ 1 → (HasSpare book → GoesOn (e ∷ []) book mid) → (HasSpare book → keeper_of mid ≡ keeper_of book)
         → table_of new ≡ table_of mid → IsSamePage mid new → ghosts.clock (disk_of new) ≤ ghosts.clock (disk_of mid) + 6 → (now % every ≢ 0 → new ≡ mid)
         → RoomFor old (table_of new) → HaveMade now every old new
-    made_more now e mid new is one goes still same page six stays room =
-        let a = length (log_of old) in
+    made_more now e mid new is one light goes still same page six stays room =
+        let a = weight_of (log_of old) in
         let events = events_in (table_of old) (table_of book) in
         let next_events = events_in (table_of old) (table_of mid) in
         let all : RoomFor old (table_of mid) = subst (RoomFor old) same room in
         let here = so_far (less_room a events next_events one all) in
         let next : now ≡ made + 1 = is ∙ no_wrap a made events here.few (whole a events next_events one all) in
-        let spare : length (log_of book) < MAX_ENTRIES = subst (λ (n : ℕ). n < MAX_ENTRIES) (sym here.log) (one_room a made events next_events here.few one all) in
+        let spare : HasSpare book = subst (λ (n : ℕ). n < PAGE_WEIGHT) (sym here.log) (one_room a made events next_events here.few one all) in
         subst (λ (n : ℕ). HaveMade n every old new) (sym next) (record {
           few = subst (λ (t : List JobParts). made + 1 ≤ events_in (table_of old) t) (sym same) (up made events next_events here.few one);
-          log = ap length page.log ∙ one_longer e book mid (goes spare) ∙ more a made (length (log_of book)) here.log;
+          log = ap weight_of page.log ∙ one_longer e book mid (goes spare) ∙ ap (λ (n : ℕ). weight_of (log_of book) + n) light ∙ more a made (weight_of (log_of book)) here.log;
           clock = calls_step made every (ghosts.clock (disk_of old)) (ghosts.clock (disk_of book)) (ghosts.clock (disk_of mid)) (ghosts.clock (disk_of new)) some here.clock
               (clock_same book mid (still spare)) six (λ other. clock_stays mid new (stays (subst (λ (n : ℕ). n % every ≢ 0) (sym next) other)));
         })
       where
-        whole : (a events next_events : ℕ) → events + 1 ≤ next_events → a + next_events < MAX_ENTRIES → a + (events + 1) < MAX_ENTRIES
+        whole : (a events next_events : ℕ) → events + 1 ≤ next_events → a + next_events < PAGE_WEIGHT → a + (events + 1) < PAGE_WEIGHT
         whole a events next_events one room = omega (arith, one, room)
 
         up : (made events next_events : ℕ) → made ≤ events → events + 1 ≤ next_events → made + 1 ≤ next_events
@@ -313,67 +314,68 @@ module _ {D : Type 0} {ghosts : Ghosts D} where
   -- ---- of submits
 
   abbrev pub RoomToCome : Book D ghosts → (t : List JobParts) → Type 0
-  RoomToCome old t = length (log_of old) + come_to (table_of old) t < MAX_ENTRIES
+  RoomToCome old t = weight_of (log_of old) + SYSTEM_WEIGHT * come_to (table_of old) t < PAGE_WEIGHT
 
   pub come_none : (book : Book D ghosts) → HaveCome book book
   come_none book = record {
-    log = sum (length (log_of book)) (length (table_of book));
+    log = sum (weight_of (log_of book)) (length (table_of book));
     clock = at_least (ghosts.clock (disk_of book)) (6 * come_to (table_of book) (table_of book));
   }
     where
-      sum : (n k : ℕ) → n ≡ n + (k - k)
+      sum : (n k : ℕ) → n ≡ n + SYSTEM_WEIGHT * (k - k)
       sum n k = omega arith
 
   module _ (old mid : Book D ghosts) (first : length (table_of old) ≤ length (table_of mid)) (so_far : RoomToCome old (table_of mid) → HaveCome old mid) where
     -- one more has come
-    pub come_more : (e : Event) (new : Book D ghosts) → length (table_of new) ≡ length (table_of mid) + 1 → (length (log_of mid) + 1 < MAX_ENTRIES → GoesOn (e ∷ []) mid new)
-        → (length (log_of mid) < MAX_ENTRIES → ghosts.clock (disk_of new) ≤ ghosts.clock (disk_of mid) + 6) → RoomToCome old (table_of new) → HaveCome old new
-    come_more e new longer goes six room =
-        let a = length (log_of old) in
+    pub come_more : (e : Event) (new : Book D ghosts) → weight e ≡ SYSTEM_WEIGHT → length (table_of new) ≡ length (table_of mid) + 1 → (HasRoom (e ∷ []) mid → GoesOn (e ∷ []) mid new)
+        → (HasSpare mid → ghosts.clock (disk_of new) ≤ ghosts.clock (disk_of mid) + 6) → RoomToCome old (table_of new) → HaveCome old new
+    come_more e new weighs longer goes six room =
+        let a = weight_of (log_of old) in
         let k = come_to (table_of old) (table_of mid) in
         let next : come_to (table_of old) (table_of new) ≡ k + 1 = one (length (table_of old)) (length (table_of mid)) (length (table_of new)) first longer in
-        let all : a + (k + 1) < MAX_ENTRIES = subst (λ (n : ℕ). a + n < MAX_ENTRIES) next room in
+        let all : a + SYSTEM_WEIGHT * (k + 1) < PAGE_WEIGHT = subst (λ (n : ℕ). a + SYSTEM_WEIGHT * n < PAGE_WEIGHT) next room in
         let here = so_far (fewer a k all) in
-        let spare : length (log_of mid) + 1 < MAX_ENTRIES = spare_one a k (length (log_of mid)) here.log all in
+        let spare : HasRoom (e ∷ []) mid = spare_one a k (weight_of (log_of mid)) (weight e) (weigh (e ∷ [])) here.log weighs (weigh_first e []) all in
         record {
-          log = one_longer e mid new (goes spare) ∙ up a k (length (log_of mid)) here.log ∙ ap (λ (n : ℕ). a + n) (sym next);
+          log = one_longer e mid new (goes spare) ∙ ap (λ (n : ℕ). weight_of (log_of mid) + n) weighs ∙ up a k (weight_of (log_of mid)) here.log
+              ∙ ap (λ (n : ℕ). a + SYSTEM_WEIGHT * n) (sym next);
           clock = subst (λ (n : ℕ). ghosts.clock (disk_of new) ≤ ghosts.clock (disk_of old) + 6 * n) (sym next)
-              (sixes k (ghosts.clock (disk_of old)) (ghosts.clock (disk_of mid)) (ghosts.clock (disk_of new)) here.clock (six (one_less (length (log_of mid)) spare)));
+              (sixes k (ghosts.clock (disk_of old)) (ghosts.clock (disk_of mid)) (ghosts.clock (disk_of new)) here.clock (six (one_less (weight_of (log_of mid)) (weigh (e ∷ [])) spare)));
         }
       where
         one : (o m n : ℕ) → o ≤ m → n ≡ m + 1 → n - o ≡ (m - o) + 1
         one o m n less is = omega (arith, less, is)
 
-        fewer : (a k : ℕ) → a + (k + 1) < MAX_ENTRIES → a + k < MAX_ENTRIES
+        fewer : (a k : ℕ) → a + SYSTEM_WEIGHT * (k + 1) < PAGE_WEIGHT → a + SYSTEM_WEIGHT * k < PAGE_WEIGHT
         fewer a k room = omega (arith, room)
 
-        spare_one : (a k b : ℕ) → b ≡ a + k → a + (k + 1) < MAX_ENTRIES → b + 1 < MAX_ENTRIES
-        spare_one a k b is room = omega (arith, is, room)
+        spare_one : (a k b own more : ℕ) → b ≡ a + SYSTEM_WEIGHT * k → own ≡ SYSTEM_WEIGHT → more ≡ own + 0 → a + SYSTEM_WEIGHT * (k + 1) < PAGE_WEIGHT → b + more < PAGE_WEIGHT
+        spare_one a k b own more is weighs all room = omega (arith, is, weighs, all, room)
 
-        one_less : (b : ℕ) → b + 1 < MAX_ENTRIES → b < MAX_ENTRIES
-        one_less b room = omega (arith, room)
+        one_less : (b more : ℕ) → b + more < PAGE_WEIGHT → b < PAGE_WEIGHT
+        one_less b more room = omega (arith, room)
 
-        up : (a k b : ℕ) → b ≡ a + k → b + 1 ≡ a + (k + 1)
+        up : (a k b : ℕ) → b ≡ a + SYSTEM_WEIGHT * k → b + SYSTEM_WEIGHT ≡ a + SYSTEM_WEIGHT * (k + 1)
         up a k b is = omega (arith, is)
 
         sixes : (k old mid new : ℕ) → mid ≤ old + 6 * k → new ≤ mid + 6 → new ≤ old + 6 * (k + 1)
         sixes k old mid new few six = omega (arith, few, six)
 
     -- it failed, whether it has come or not
-    pub come_or_not : (new : Book D ghosts) → length (table_of mid) ≤ length (table_of new) → (length (log_of mid) < MAX_ENTRIES → ghosts.clock (disk_of new) ≤ ghosts.clock (disk_of mid) + 6)
+    pub come_or_not : (new : Book D ghosts) → length (table_of mid) ≤ length (table_of new) → (HasSpare mid → ghosts.clock (disk_of new) ≤ ghosts.clock (disk_of mid) + 6)
         → RoomToCome old (table_of new) → ghosts.clock (disk_of new) ≤ ghosts.clock (disk_of old) + 6 * (come_to (table_of old) (table_of new) + 1)
     come_or_not new less six room =
-        let a = length (log_of old) in
+        let a = weight_of (log_of old) in
         let k = come_to (table_of old) (table_of mid) in
         let more : k ≤ come_to (table_of old) (table_of new) = no_fewer (length (table_of old)) (length (table_of mid)) (length (table_of new)) less in
         let here = so_far (within a k (come_to (table_of old) (table_of new)) more room) in
-        let spare : length (log_of mid) < MAX_ENTRIES = subst (λ (n : ℕ). n < MAX_ENTRIES) (sym here.log) (within a k (come_to (table_of old) (table_of new)) more room) in
+        let spare : HasSpare mid = subst (λ (n : ℕ). n < PAGE_WEIGHT) (sym here.log) (within a k (come_to (table_of old) (table_of new)) more room) in
         sixes k (come_to (table_of old) (table_of new)) (ghosts.clock (disk_of old)) (ghosts.clock (disk_of mid)) (ghosts.clock (disk_of new)) more here.clock (six spare)
       where
         no_fewer : (o m n : ℕ) → m ≤ n → m - o ≤ n - o
         no_fewer o m n less = omega (arith, less)
 
-        within : (a k n : ℕ) → k ≤ n → a + n < MAX_ENTRIES → a + k < MAX_ENTRIES
+        within : (a k n : ℕ) → k ≤ n → a + SYSTEM_WEIGHT * n < PAGE_WEIGHT → a + SYSTEM_WEIGHT * k < PAGE_WEIGHT
         within a k n less room = omega (arith, less, room)
 
         sixes : (k n old mid new : ℕ) → k ≤ n → mid ≤ old + 6 * k → new ≤ mid + 6 → new ≤ old + 6 * (n + 1)
@@ -388,9 +390,9 @@ module _ {D : Type 0} {ghosts : Ghosts D} where
     few_submits few room =
         let n = come_to (table_of old) (table_of mid) in
         let more = events_in (all_of jobs (table_of old)) (table_of mid) in
-        more_sixes n (more / every) (ghosts.clock (disk_of old)) (ghosts.clock (disk_of mid)) (few (within (length (log_of old)) n more room))
+        more_sixes n (more / every) (ghosts.clock (disk_of old)) (ghosts.clock (disk_of mid)) (few (within (weight_of (log_of old)) n more room))
       where
-        within : (a n m : ℕ) → a + (n + m) < MAX_ENTRIES → a + n < MAX_ENTRIES
+        within : (a n m : ℕ) → a + (SYSTEM_WEIGHT * n + m) < PAGE_WEIGHT → a + SYSTEM_WEIGHT * n < PAGE_WEIGHT
         within a n m room = omega (arith, room)
 
         more_sixes : (n q old new : ℕ) → new ≤ old + 6 * (n + 1) → new ≤ old + 6 * ((n + q) + 1)
@@ -401,24 +403,25 @@ module _ {D : Type 0} {ghosts : Ghosts D} where
         → (RoomFor mid (table_of new) → ghosts.clock (disk_of new) ≤ ghosts.clock (disk_of mid) + 6 * (events_in (table_of mid) (table_of new) / every))
         → table_of last ≡ table_of new → ghosts.clock (disk_of last) ≤ ghosts.clock (disk_of new) + 6 → CallsFew jobs every old last
     few_kept all come new last long rounds same six room =
-        let a = length (log_of old) in
+        let a = weight_of (log_of old) in
         let n : ℕ = come_to (table_of old) (table_of mid) in
         let m : ℕ = events_in (table_of mid) (table_of new) in
         let is_n : come_to (table_of old) (table_of last) ≡ n = ap (λ (k : ℕ). k - length (table_of old)) (ap length same ∙ long) in
         let is_m : events_in (all_of jobs (table_of old)) (table_of last) ≡ m =
         ap (λ (t : List JobParts). events_in t (table_of last)) (sym all) ∙ ap (λ (t : List JobParts). events_in (table_of mid) t) same in
-        let both : come_to (table_of old) (table_of last) + events_in (all_of jobs (table_of old)) (table_of last) ≡ n + m = ap₂ (λ (x y : ℕ). x + y) is_n is_m in
-        let spare : a + (n + m) < MAX_ENTRIES = subst (λ (k : ℕ). a + k < MAX_ENTRIES) both room in
+        let both : SYSTEM_WEIGHT * come_to (table_of old) (table_of last) + events_in (all_of jobs (table_of old)) (table_of last) ≡ SYSTEM_WEIGHT * n + m =
+        ap₂ (λ (x y : ℕ). SYSTEM_WEIGHT * x + y) is_n is_m in
+        let spare : a + (SYSTEM_WEIGHT * n + m) < PAGE_WEIGHT = subst (λ (k : ℕ). a + k < PAGE_WEIGHT) both room in
         let here = come (within a n m spare) in
-        let made = rounds (again a n m (length (log_of mid)) here.log spare) in
+        let made = rounds (again a n m (weight_of (log_of mid)) here.log spare) in
         subst (λ (k : ℕ). ghosts.clock (disk_of last) ≤ ghosts.clock (disk_of old) + 6 * (k + 1))
         (sym (ap₂ (λ (x y : ℕ). x + y / every) is_n is_m))
         (sum n (m / every) (ghosts.clock (disk_of old)) (ghosts.clock (disk_of mid)) (ghosts.clock (disk_of new)) (ghosts.clock (disk_of last)) here.clock made six)
       where
-        within : (a n m : ℕ) → a + (n + m) < MAX_ENTRIES → a + n < MAX_ENTRIES
+        within : (a n m : ℕ) → a + (SYSTEM_WEIGHT * n + m) < PAGE_WEIGHT → a + SYSTEM_WEIGHT * n < PAGE_WEIGHT
         within a n m room = omega (arith, room)
 
-        again : (a n m b : ℕ) → b ≡ a + n → a + (n + m) < MAX_ENTRIES → b + m < MAX_ENTRIES
+        again : (a n m b : ℕ) → b ≡ a + SYSTEM_WEIGHT * n → a + (SYSTEM_WEIGHT * n + m) < PAGE_WEIGHT → b + m < PAGE_WEIGHT
         again a n m b is room = omega (arith, is, room)
 
         sum : (n q old mid new last : ℕ) → mid ≤ old + 6 * n → new ≤ mid + 6 * q → last ≤ new + 6 → last ≤ old + 6 * ((n + q) + 1)

@@ -1,5 +1,5 @@
 -- A round of a job that goes on, over a book.
-use Rattle.std.proofs.Common.{◌≡◌, ℕ, ◌<◌, List, [], ◌∷◌, length, true, false, Option, None, Some, sym, subst, ◌∙◌, true≢false}
+use Rattle.std.proofs.Common.{◌≡◌, ℕ, List, [], ◌∷◌, true, false, Option, None, Some, sym, subst, ◌∙◌, true≢false}
 use Rattle.std.specs.Prelude.{IfNone, IfSome, IsTrue, slice_get}
 use Rattle.ic_disk.specs.declared.disk.Disk.{Ghosts}
 use Rattle.ic_flights.specs.Flight.{FlightParts, is_blocked}
@@ -7,10 +7,9 @@ use Rattle.ic_jobs.specs.Job.{JobParts}
 use Rattle.ic_jobs.specs.Table.{IsTable, with_changed}
 use Rattle.ic_jobs.specs.Landing.{due}
 use Rattle.ic_book.specs.declared.book.Book.{Book}
-use Rattle.ic_book.specs.Book.{log_of, table_of}
-use Rattle.ic_book.specs.declared.limits.TheConstants.{MAX_ENTRIES}
+use Rattle.ic_book.specs.Book.{table_of}
 use Rattle.ic_jobs.specs.declared.event.Event.TheVariants.{Round}
-use Rattle.ic_serving.specs.Grown.{GoesOn}
+use Rattle.ic_serving.specs.Grown.{GoesOn, HasSpare}
 use Rattle.ic_serving.specs.Booked.{MakesRound}
 use Rattle.ic_serving.specs.Moments.{Leaves, IsKeptOrNow}
 use Rattle.ic_serving.specs.declared.fault.ServeFault.{ServeFault}
@@ -39,7 +38,7 @@ pub record OneRound {D : Type 0} {ghosts : Ghosts D} (most : ℕ) (old mid new :
   pub made : IsMade most (table_of mid) (table_of new)
   pub leads : Leads (AreWays most (table_of old)) old new
   pub event : List ℕ
-  pub page : length (log_of mid) < MAX_ENTRIES → GoesOn (Round event ∷ []) mid new
+  pub page : HasSpare mid → GoesOn (Round event ∷ []) mid new
 
 pub one_round : {D : Type 0} {ghosts : Ghosts D} (laws : DueLaws) (most : ℕ) (old mid new : Book D ghosts) (t : List JobParts) → t ≡ table_of mid → IsTable t
     → (place : ℕ) → GoesAt most t place → (r : Option ℕ) → IfNone r (due (table_of mid) place ≡ None) → IfSome r (λ here. MakesRound place here mid new)

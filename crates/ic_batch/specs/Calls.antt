@@ -5,7 +5,9 @@ use Rattle.ic_jobs.specs.declared.state.State.TheVariants.{Halted}
 use Rattle.ic_jobs.specs.State.{is_running, state_eq}
 use Rattle.ic_jobs.specs.Job.{JobParts}
 use Rattle.ic_book.specs.declared.book.Book.{Book}
-use Rattle.ic_book.specs.declared.limits.TheConstants.{MAX_ENTRIES}
+use Rattle.ic_book.specs.declared.limits.TheConstants.{SYSTEM_WEIGHT}
+use Rattle.ic_book.specs.Weight.{weight_of}
+use Rattle.ic_serving.specs.declared.limits.TheConstants.{PAGE_WEIGHT}
 use Rattle.ic_book.specs.Book.{disk_of, log_of, table_of}
 use Rattle.ic_batch.specs.declared.jobs.NewJob.{NewJob}
 use Rattle.ic_batch.specs.Way.{all_of}
@@ -25,13 +27,13 @@ events_in (x ∷ xs) (y ∷ ys) = events_of x y + events_in xs ys
 abbrev pub come_to : (old t : List JobParts) → ℕ
 come_to old t = length t - length old
 
--- Where the log has room for the submits, the rounds and the halts that were made, at most six calls to
+-- Where the page has room for the submits, the rounds and the halts that were made, at most six calls to
 -- the disk are made for each submit, six for each `every` rounds and halts, and six at the end.
 abbrev pub CallsFew : {D : Type 0} {ghosts : Ghosts D} → List NewJob → (every : ℕ)
     → (old new : Book D ghosts) → Type 0
 CallsFew {D} {ghosts} jobs every old new =
-    length (log_of old) + (come_to (table_of old) (table_of new)
-    + events_in (all_of jobs (table_of old)) (table_of new)) < MAX_ENTRIES
+    weight_of (log_of old) + (SYSTEM_WEIGHT * come_to (table_of old) (table_of new)
+    + events_in (all_of jobs (table_of old)) (table_of new)) < PAGE_WEIGHT
     → ghosts.clock (disk_of new) ≤ ghosts.clock (disk_of old)
     + 6 * (come_to (table_of old) (table_of new)
     + events_in (all_of jobs (table_of old)) (table_of new) / every + 1)

@@ -23,7 +23,7 @@ ghost use Rattle.ic_lines.specs.Serving.{IsServed};
 ghost use Rattle.ic_output.specs.Output.{AppendsFront};
 ghost use Rattle.ic_book.specs.declared.fault.BookFault.TheVariants as of_book;
 ghost use Rattle.ic_book.specs.Book.{disk_of, is_broken, log_of, number_of, table_of, IsUnchanged};
-ghost use Rattle.ic_book.specs.declared.limits.TheConstants.{MAX_ENTRIES};
+ghost use Rattle.ic_book.specs.Weight.{weight_of};
 ghost use Rattle.ic_disk.specs.Time.{OneMore};
 ghost use Rattle.ic_pool.specs.declared.fault.PoolFault.{PoolFault};
 ghost use Rattle.ic_pool.specs.declared.fault.PoolFault.TheVariants as of_pool;
@@ -250,9 +250,9 @@ pub fn a_failing_writer_ends_a_batch<D: Disk>(old: &Book<D>, new: &Book<D>)
 /// Of a way its rounds are counted, and its halt: n of them after n events, if the job went on before
 /// each of these. Of jobs these numbers are added up, in pairs.
 ///
-/// The log, of 65,536 entries in all, has to have room for all submits, rounds and halts of the batch,
-/// and for one entry more. Then the batch calls the disk at most six times for each submit, six for each
-/// `every` rounds and halts, and six at its end.
+/// The page, whose entries weigh 65,536 in all, has to have room for all submits, of 512 each, for all
+/// rounds and halts of the batch, and for one entry more. Then the batch calls the disk at most six times
+/// for each submit, six for each `every` rounds and halts, and six at its end.
 pub fn a_batch_calls_the_disk_so<D: Disk>(old: &Book<D>, new: &Book<D>)
     ensures way { (most n : ℕ) (from : JobParts)
         → ((m : ℕ) → m < n → goes_on most (after most m from) ≡ true)
@@ -265,7 +265,7 @@ pub fn a_batch_calls_the_disk_so<D: Disk>(old: &Book<D>, new: &Book<D>)
         → CallsFew jobs every old.now new.now
         → length (table_of new.now) ≡ length (table_of old.now) + submits
         → events_in (all_of jobs (table_of old.now)) (table_of new.now) ≡ events
-        → length (log_of old.now) + (submits + events) < MAX_ENTRIES
+        → weight_of (log_of old.now) + (512 * submits + events) < 65536
         → D.clock (disk_of new.now) ≤ D.clock (disk_of old.now)
         + 6 * (submits + events / every + 1) }
 {

@@ -1,10 +1,11 @@
 //! Making rounds until no job goes on.
 
-ghost use Rattle.std.specs.Prelude.{◌≡◌, ◌≤◌, ◌<◌, ◌+◌, ◌*◌, ◌/◌, length, drop, Some, IfErr, IfSome, IfNone, OnOk, true, false, slice_get};
+ghost use Rattle.std.specs.Prelude.{◌≡◌, ◌≤◌, ◌<◌, ◌+◌, ◌*◌, ◌/◌, drop, Some, IfErr, IfSome, IfNone, OnOk, true, false, slice_get};
 ghost use Rattle.std.specs.List.{AllByRecursion};
 ghost use Rattle.ic_jobs.specs.Job.{JobParts};
 ghost use Rattle.ic_book.specs.Book.{disk_of, is_broken, log_of, table_of};
-ghost use Rattle.ic_book.specs.declared.limits.TheConstants.{MAX_ENTRIES};
+ghost use Rattle.ic_book.specs.Weight.{weight_of};
+ghost use Rattle.ic_serving.specs.declared.limits.TheConstants.{PAGE_WEIGHT};
 ghost use Rattle.ic_serving.specs.Booked.{unkept_of, IsAllKept};
 ghost use Rattle.ic_serving.specs.Faults.{ComesAlone, ComesInLine};
 ghost use Rattle.ic_serving.specs.Moments.{FaultLeaves};
@@ -76,8 +77,8 @@ pub(crate) fn make_rounds<T: Threads + Wait + Copy + Send + 'static, D: Disk, G:
     ensures still { is_broken book.old ≡ true → OnOk result (is_broken book.new ≡ true) }
     ensures alone { workers ≡ 1 → IfErr result ComesAlone }
     ensures few_unkept { IsAllKept book.old → unkept_of book.new ≤ every }
-    ensures few_calls { length (log_of book.old)
-        + events_in (table_of book.old) (table_of book.new) < MAX_ENTRIES
+    ensures few_calls { weight_of (log_of book.old)
+        + events_in (table_of book.old) (table_of book.new) < PAGE_WEIGHT
         → D.clock (disk_of book.new) ≤ D.clock (disk_of book.old)
         + 6 * (events_in (table_of book.old) (table_of book.new) / every) }
     ensures ended { OnOk result

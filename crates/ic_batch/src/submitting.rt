@@ -5,7 +5,9 @@ ghost use Rattle.std.specs.Bool.{OnFalse, OnTrue};
 ghost use Rattle.std.specs.List.{IsDistinct};
 ghost use Rattle.std.specs.Str.{bytes_eq};
 ghost use Rattle.ic_book.specs.Book.{disk_of, is_broken, log_of, table_of};
-ghost use Rattle.ic_book.specs.declared.limits.TheConstants.{MAX_ENTRIES};
+ghost use Rattle.ic_book.specs.declared.limits.TheConstants.{SYSTEM_WEIGHT};
+ghost use Rattle.ic_book.specs.Weight.{weight_of};
+ghost use Rattle.ic_serving.specs.declared.limits.TheConstants.{PAGE_WEIGHT};
 ghost use Rattle.ic_jobs.specs.Table.{job_named};
 ghost use Rattle.ic_jobs.specs.declared.limits.TheConstants.{MAX_JOBS};
 ghost use Rattle.ic_serving.specs.Booked.{unkept_of, IsAllKept};
@@ -62,11 +64,12 @@ pub(crate) fn submit_missing<D: Disk>(
     ensures still { is_broken book.old ≡ true → OnOk result (is_broken book.new ≡ true) }
     ensures alone { IfErr result ComesAlone }
     ensures kept { OnOk result (IsAllKept book.old → IsAllKept book.new) }
-    ensures few_calls { length (log_of book.old) + come_to (table_of book.old) (table_of book.new)
-        < MAX_ENTRIES → D.clock (disk_of book.new) ≤ D.clock (disk_of book.old)
+    ensures few_calls { weight_of (log_of book.old)
+        + SYSTEM_WEIGHT * come_to (table_of book.old) (table_of book.new) < PAGE_WEIGHT
+        → D.clock (disk_of book.new) ≤ D.clock (disk_of book.old)
         + 6 * (come_to (table_of book.old) (table_of book.new) + 1) }
-    ensures come { OnOk result (length (log_of book.old)
-        + come_to (table_of book.old) (table_of book.new) < MAX_ENTRIES
+    ensures come { OnOk result (weight_of (log_of book.old)
+        + SYSTEM_WEIGHT * come_to (table_of book.old) (table_of book.new) < PAGE_WEIGHT
         → HaveCome book.old book.new) }
     ensures few_unkept { IsAllKept book.old → unkept_of book.new ≤ 1 }
 {

@@ -13,7 +13,7 @@ start_of book = book.start
 
 -- what has come since
 abbrev pub log_of : {D : Type 0} {ghosts : Ghosts D} → Book D ghosts → List Entry
-log_of book = book.log.items
+log_of book = book.log.entries.items
 
 -- the table now
 abbrev pub table_of : {D : Type 0} {ghosts : Ghosts D} → Book D ghosts → List JobParts

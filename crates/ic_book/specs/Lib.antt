@@ -3,6 +3,7 @@ pub mod Crashes
 pub mod Left
 pub mod Kept
 pub mod Entries
+pub mod Weight
 pub mod Refusals
 pub mod Book
 pub mod Opened

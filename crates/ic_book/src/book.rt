@@ -1,6 +1,6 @@
 //! A job table, its history and the disk on which it is kept.
 
-ghost use Rattle.std.specs.Prelude.{◌≡◌, ◌↔◌, ◌-◌, ◌^◌, false, IsTrue};
+ghost use Rattle.std.specs.Prelude.{◌≡◌, ◌↔◌, ◌-◌, ◌^◌, min, false, IsTrue};
 ghost use Rattle.std.specs.Coded.{Π_prop};
 ghost use Rattle.ic_disk.specs.Images.{Within};
 ghost use Rattle.ic_frames.specs.Fields.{IsMade};
@@ -22,6 +22,7 @@ mod new_page;
 mod open;
 mod take;
 
+use crate::log::Log;
 use ic_disk::Disk;
 use ic_jobs::{Entry, Table};
 use ic_slots::Keeper;
@@ -31,19 +32,19 @@ use ic_slots::Keeper;
 #[derive(Drop)]
 pub struct Book<D: Disk> {
     start: Table,
-    log: Vec<Entry>,
+    log: Log,
     table: Table,
     kept: usize,
     keeper: Keeper<D>,
-    ghost history: { IsHistory start log.items table kept
-        (keeper_parts.is_broken keeper) } by { IsHistory-prop start log.items table kept
+    ghost history: { IsHistory start log.entries.items table kept
+        (keeper_parts.is_broken keeper) } by { IsHistory-prop start log.entries.items table kept
             (keeper_parts.is_broken keeper) },
     ghost on_disk: { IsTrue (D.keeps (keeper_parts.disk_of keeper))
         → IsOnDisk (D.content (keeper_parts.disk_of keeper))
-        (D.image (keeper_parts.disk_of keeper)) start log.items kept
+        (D.image (keeper_parts.disk_of keeper)) start log.entries.items kept
         (keeper_parts.is_broken keeper) } by { Π_prop (λ _. IsOnDisk-prop
             (D.content (keeper_parts.disk_of keeper)) (D.image (keeper_parts.disk_of keeper))
-            start log.items kept (keeper_parts.is_broken keeper)) },
+            start log.entries.items kept (keeper_parts.is_broken keeper)) },
     ghost newest: { IsTrue (D.keeps (keeper_parts.disk_of keeper))
         → keeper_parts.is_broken keeper ≡ false
         → IsOnNewest (keeper_parts.frames_of keeper)
@@ -55,6 +56,7 @@ pub struct Book<D: Disk> {
 impl<D: Disk> Book<D> {
     ghost use Rattle.ic_book.specs.Book.{start_of, log_of, table_of, kept_of, keeper_of, disk_of, is_broken, number_of};
     ghost use Rattle.ic_book.specs.Moves.{stays};
+    ghost use Rattle.ic_book.specs.Weight.{weight_of};
     ghost use Rattle.ic_book.specs.Server.{Step, up};
 
     /// The table that the log begins with.
@@ -68,7 +70,15 @@ impl<D: Disk> Book<D> {
     pub fn log(&self) -> &[Entry]
         ensures { result.now ≡ log_of self.now }
     {
-        &self.log
+        self.log.entries()
+    }
+
+    /// What the entries of the log weigh, up to the end of the count. It looks at none of them: this is
+    /// counted as they come.
+    pub fn weight(&self) -> u64
+        ensures { result ≡ min (weight_of (log_of self.now)) (2 ^ 64 - 1) }
+    {
+        self.log.weight()
     }
 
     /// The table after all entries of the log.

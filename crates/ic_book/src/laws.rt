@@ -1,7 +1,9 @@
 //! Laws of the definitions that the contracts of this crate cite.
 
-ghost use Rattle.std.specs.Prelude.{◌≡◌, ◌⊎◌, ◌↔◌, ◌+◌, ◌-◌, ◌^◌, ℕ, List, [], ◌∷◌, ◌++◌, Bool, true, Some, Result, Err, IsErrOf, Contains, map};
+ghost use Rattle.std.specs.Prelude.{◌≡◌, ◌⊎◌, ◌↔◌, ◌+◌, ◌-◌, ◌^◌, ◌≤◌, ℕ, List, [], ◌∷◌, ◌++◌, Bool, true, Option, Some, Result, Err, IsErrOf, Contains, length, map};
+ghost use Rattle.ic_rules.specs.System.{SystemParts};
 ghost use Rattle.ic_jobs.specs.declared.command.Command.{Command};
+ghost use Rattle.ic_jobs.specs.declared.command.Command.TheVariants.{Submit, CopyJob, Pause, Resume, Cancel, Fetch, List as list_jobs};
 ghost use Rattle.ic_jobs.specs.declared.event.Entry.{Entry};
 ghost use Rattle.ic_jobs.specs.declared.event.Event.TheVariants.{Command as by_command, Round};
 ghost use Rattle.ic_jobs.specs.declared.reply.Refusal.{Refusal};
@@ -17,6 +19,7 @@ ghost use Rattle.ic_book.specs.declared.fault.BookFault.{BookFault};
 ghost use Rattle.ic_book.specs.declared.fault.BookFault.TheVariants.{Device};
 ghost use Rattle.ic_book.specs.Entries.{AddsCommand, AddsRound, AreRounds, IsRoundEntry, RoundHasSenderZero, leaves_table};
 ghost use Rattle.ic_book.specs.Kept.{IsHistory};
+ghost use Rattle.ic_book.specs.Weight.{weight, weight_of};
 ghost use Rattle.ic_book.specs.Refusals.{CountsBook, all_book_faults, fault_number};
 ghost use Rattle.ic_book.specs.Book.{start_of, log_of, table_of, kept_of, keeper_of, disk_of, IsUnchanged};
 
@@ -26,6 +29,24 @@ use ic_disk::Disk;
 /// The limit of a history.
 pub fn limits_are()
     ensures { MAX_ENTRIES ≡ 65536 }
+{}
+
+/// What the entries of a log weigh: a submit and a fetch 512, a list 2, any other command and a round 1,
+/// added up. So there are no more entries than they weigh.
+pub fn entries_weigh_so()
+    ensures submit { (name : List ℕ) (system : SystemParts) (budget : Option ℕ)
+        → weight (by_command (Submit name system budget)) ≡ 512 }
+    ensures fetch { (name : List ℕ) → weight (by_command (Fetch name)) ≡ 512 }
+    ensures list { weight (by_command list_jobs) ≡ 2 }
+    ensures copy { (old new : List ℕ) → weight (by_command (CopyJob old new)) ≡ 1 }
+    ensures pause { (name : List ℕ) → weight (by_command (Pause name)) ≡ 1 }
+    ensures resume { (name : List ℕ) → weight (by_command (Resume name)) ≡ 1 }
+    ensures cancel { (name : List ℕ) → weight (by_command (Cancel name)) ≡ 1 }
+    ensures round { (name : List ℕ) → weight (Round name) ≡ 1 }
+    ensures none { weight_of [] ≡ 0 }
+    ensures one_more { (h : List Entry) (e : Entry)
+        → weight_of (h ++ e ∷ []) ≡ weight_of h + weight e.event }
+    ensures short { (h : List Entry) → length h ≤ weight_of h }
 {}
 
 /// Where a book tells that its disk has failed, one more failure is counted, up to the end of the

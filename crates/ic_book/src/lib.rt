@@ -16,8 +16,9 @@ mod fault;
 mod keeping;
 pub mod laws;
 mod limits;
+mod log;
 
 pub use book::Book;
 pub use fault::BookFault;
 pub use ic_slots::{OpenCause, OpenFault};
-pub use limits::MAX_ENTRIES;
+pub use limits::{LIST_WEIGHT, MAX_ENTRIES, SYSTEM_WEIGHT};

@@ -1,5 +1,5 @@
 -- Commands that are taken one after the other, and kept at once.
-use Rattle.std.proofs.Common.{◌≡◌, ◌⊎◌, inl, inr, ℕ, ◌+◌, ◌-◌, ◌<◌, ◌≤◌, List, [], ◌∷◌, ◌++◌, Bool, true, false, Option, None, Some, Result, Ok, Err, length, map, refl, sym, ap, ap₂, subst, ◌∙◌, arith, append-nil, append_assoc, length-append}
+use Rattle.std.proofs.Common.{◌≡◌, ◌⊎◌, inl, inr, ℕ, ◌+◌, ◌-◌, ◌≤◌, List, [], ◌∷◌, ◌++◌, Bool, true, false, Option, None, Some, Result, Ok, Err, length, map, refl, sym, ap, ap₂, subst, ◌∙◌, arith, append-nil, append_assoc, length-append}
 use Rattle.std.specs.Prelude.{IsTrue, is_ok}
 use Rattle.std.specs.Result.{IsErrAnd}
 use Rattle.std.specs.List.{AllByRecursion}
@@ -23,13 +23,14 @@ use Rattle.ic_lines.specs.Answers.{Reading, answer, after_line}
 use Rattle.ic_lines.specs.Lines.{lines}
 use Rattle.ic_lines.specs.Taking.{BufferParts, IsFed, TakesLine, to_come}
 use Rattle.ic_lines.specs.Turns.{after_events}
-use Rattle.ic_book.specs.declared.limits.TheConstants.{MAX_ENTRIES}
 use Rattle.ic_book.specs.declared.book.Book.{Book}
 use Rattle.ic_book.specs.Book.{start_of, log_of, table_of, kept_of, disk_of, keeper_of, IsUnchanged}
 use Rattle.ic_book.specs.ByCalls.{IsByCalls}
 use Rattle.ic_book.specs.Entries.{command_entry}
 use Rattle.ic_book.specs.Left.{HoldsKeptOrAll}
 use Rattle.ic_book.specs.Moves.{Move, answers, takes}
+use Rattle.ic_book.specs.Weight.{weigh, weight_of}
+use Rattle.ic_book.specs.lemmas.Weights.{weigh_both}
 use Rattle.ic_book.specs.lemmas.Chains.{by_calls_then, then_moves}
 use Rattle.ic_serving.specs.Answered.{AreTaken, AskFor, IsTaken}
 use Rattle.ic_serving.specs.Booked.{last_kept, unkept_of, Begins, StaysPut}
@@ -38,7 +39,7 @@ use Rattle.ic_serving.specs.Moments.{IsKeptOrNow, Leaves}
 use Rattle.ic_serving.specs.Parts.{IsKeptWithin}
 use Rattle.ic_serving.specs.inner.Group.{ArePassed, HaveCome, TakesLines, TakesReady, asked}
 use Rattle.ic_serving.specs.lemmas.Leaving.{leaves_more, leaves_nothing, leaves_then}
-use Rattle.ic_serving.proofs.PageLemmas.{goes_none, goes_same, goes_then, long_after, within_all}
+use Rattle.ic_serving.proofs.PageLemmas.{goes_none, goes_same, goes_then, room_both, room_then, weighs_after, within_all}
 use Rattle.ic_serving.proofs.RunLemmas.{kept_longer, kept_same}
 use Rattle.ic_serving.proofs.StopLemmas.{kept_or_all, leaves_command, leaves_still}
 use Rattle.ic_serving.proofs.TakeLemmas.{Taken, taken_begins, taken_by, taken_goes, taken_table}
@@ -123,9 +124,11 @@ module _ {D : Type 0} {ghosts : Ghosts D} where
     table = b.table ∙ ap (λ (y : List JobParts). after_events y more) a.table ∙ sym (fold-append table_after (table_of old) es more);
     kept = kept_then (table_of old) (last_kept old) es more (table_of mid) (last_kept mid) (last_kept new) a.table a.kept b.kept;
     page = λ room.
-        let first : HasRoom es old = omega (arith, room, length-append es more) in
+        let both = weigh_both es more in
+        let first : HasRoom es old = room_both (weight_of (log_of old)) (weigh (es ++ more)) (weigh es) (weigh more) room both in
         let goes = a.page first in
-        let second : HasRoom more mid = omega (arith, room, length-append es more, long_after es old mid goes) in
+        let second : HasRoom more mid =
+        room_then (weight_of (log_of old)) (weigh (es ++ more)) (weigh es) (weigh more) (weight_of (log_of mid)) room both (weighs_after es old mid goes) in
         goes_then es more old mid new goes (b.page second);
     crash = leaves_then old mid new (IsKeptWithin (table_of old) (last_kept old) (es ++ more)) (IsKeptWithin (table_of mid) (last_kept mid) more)
         (leaves_more old mid (IsKeptWithin (table_of old) (last_kept old) es) (IsKeptWithin (table_of old) (last_kept old) (es ++ more)) a.crash

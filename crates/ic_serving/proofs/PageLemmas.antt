@@ -1,7 +1,7 @@
 -- How the page of a book goes on.
-use Rattle.std.proofs.Common.{◌≡◌, inl, inr, ⊎_elim, ℕ, ◌+◌, ◌-◌, ◌<◌, List, [], ◌∷◌, ◌++◌, Some, length, refl, sym, ap, ap₂, subst, ◌∙◌, arith, append-nil, append_assoc, length-append}
+use Rattle.std.proofs.Common.{◌≡◌, inl, inr, ⊎_elim, ℕ, ◌+◌, ◌-◌, ◌<◌, List, [], ◌∷◌, ◌++◌, Some, refl, sym, ap, ap₂, subst, ◌∙◌, arith, append-nil, append_assoc}
 use Rattle.std.specs.List.{AllByRecursion}
-use Rattle.std.proofs.lemmas.List.{map-append, length-map}
+use Rattle.std.proofs.lemmas.List.{map-append}
 use Rattle.ic_disk.specs.declared.disk.Disk.{Ghosts}
 use Rattle.ic_flights.specs.Flight.{FlightParts}
 use Rattle.ic_jobs.specs.Job.{JobParts}
@@ -12,18 +12,39 @@ use Rattle.ic_jobs.specs.declared.event.Entry.{Entry}
 use Rattle.ic_jobs.specs.declared.reply.Reply.{Reply}
 use Rattle.ic_jobs.specs.History.{table_after}
 use Rattle.ic_jobs.specs.Landing.{due}
-use Rattle.ic_book.specs.declared.limits.TheConstants.{MAX_ENTRIES}
 use Rattle.ic_book.specs.declared.book.Book.{Book}
 use Rattle.ic_book.specs.Book.{start_of, log_of, table_of}
 use Rattle.ic_book.specs.Entries.{command_entry, round_entry}
+use Rattle.ic_book.specs.Weight.{weigh, weight_of}
+use Rattle.ic_book.specs.lemmas.Weights.{weigh_both, weigh_on}
 use Rattle.ic_lines.specs.Turns.{turns}
 use Rattle.ic_serving.specs.Booked.{last_kept, Advances, MakesRound, StaysPut}
-use Rattle.ic_serving.specs.Grown.{IsSamePage, GoesOn, GoesOnWithin, HasRoom}
+use Rattle.ic_serving.specs.declared.limits.TheConstants.{PAGE_WEIGHT}
+use Rattle.ic_serving.specs.Grown.{IsSamePage, GoesOn, GoesOnWithin, HasRoom, HasSpare}
 use Rattle.ic_serving.proofs.RunLemmas.{turns_step}
 
 senders_both : (a b : List Entry) → AllByRecursion (λ (e : Entry). e.who ≡ 0) a → AllByRecursion (λ (e : Entry). e.who ≡ 0) b → AllByRecursion (λ (e : Entry). e.who ≡ 0) (a ++ b)
 senders_both [] b p q = q
 senders_both (e ∷ es) b p q = (p.0, senders_both es b p.1 q)
+
+-- ---- room, in numbers
+
+spare : (log more : ℕ) → log + more < PAGE_WEIGHT → log < PAGE_WEIGHT
+spare log more room = omega (arith, room)
+
+left_over : (old all front rest log : ℕ) → old + all < PAGE_WEIGHT → log ≡ old + front → all ≡ front + rest → log < PAGE_WEIGHT
+left_over old all front rest log room grown sum = omega (arith, room, grown, sum)
+
+pub room_both : (old all front rest : ℕ) → old + all < PAGE_WEIGHT → all ≡ front + rest → old + front < PAGE_WEIGHT
+room_both old all front rest room sum = omega (arith, room, sum)
+
+pub room_then : (old all front rest log : ℕ) → old + all < PAGE_WEIGHT → all ≡ front + rest → log ≡ old + front → log + rest < PAGE_WEIGHT
+room_then old all front rest log room sum grown = omega (arith, room, sum, grown)
+
+pub one_more : (old more new : ℕ) → old < PAGE_WEIGHT → new ≡ old + more → new < PAGE_WEIGHT + more
+one_more old more new room grown = omega (arith, room, grown)
+
+-- ---- pages
 
 module _ {D : Type 0} {ghosts : Ghosts D} where
   pub goes_none : (book : Book D ghosts) → GoesOn [] book book
@@ -69,27 +90,22 @@ module _ {D : Type 0} {ghosts : Ghosts D} where
   same_then old mid new same start log = record { start = start ∙ same.start; log = log ∙ same.log }
 
   -- a command, after a page that stays
-  pub one_room : (book : Book D ghosts) (c : Command) → HasRoom (by_command c ∷ []) book → length (log_of book) < MAX_ENTRIES
-  one_room book c room = omega (arith, room)
+  pub one_room : (book : Book D ghosts) (c : Command) → HasRoom (by_command c ∷ []) book → HasSpare book
+  one_room book c room = spare (weight_of (log_of book)) (weigh (by_command c ∷ [])) room
 
   pub command_goes : (c : Command) (reply : Reply) (old mid new : Book D ghosts) → IsSamePage old mid → start_of new ≡ start_of mid
       → log_of new ≡ log_of mid ++ command_entry 0 c reply ∷ [] → GoesOn (by_command c ∷ []) old new
   command_goes c reply old mid new same start log = goes_after (by_command c ∷ []) old mid new same
       (record { entries = command_entry 0 c reply ∷ []; start = start; log = log; events = refl; senders = (refl, tt) })
 
-  -- how long the log is after these events
-  pub long_after : (es : List Event) (old new : Book D ghosts) → GoesOn es old new → length (log_of new) ≡ length (log_of old) + length es
-  long_after es old new goes =
-      let grown = ap length goes.log ∙ length-append (log_of old) goes.entries in
-      let many : length goes.entries ≡ length es = sym (length-map goes.entries (λ (e : Entry). e.event)) ∙ ap length goes.events in
-      grown ∙ ap (λ n. length (log_of old) + n) many
+  -- what the log weighs after these events
+  pub weighs_after : (es : List Event) (old new : Book D ghosts) → GoesOn es old new → weight_of (log_of new) ≡ weight_of (log_of old) + weigh es
+  weighs_after es old new goes = weigh_on (log_of old) (log_of new) goes.entries es goes.log goes.events
 
   -- where there is room for all events, there is room after a front of them
-  pub room_after : (all front rest : List Event) (old book : Book D ghosts) → all ≡ front ++ rest → HasRoom all old → GoesOn front old book → length (log_of book) < MAX_ENTRIES
+  pub room_after : (all front rest : List Event) (old book : Book D ghosts) → all ≡ front ++ rest → HasRoom all old → GoesOn front old book → HasSpare book
   room_after all front rest old book parted room goes =
-      let long = long_after front old book goes in
-      let sum = ap length parted ∙ length-append front rest in
-      omega (arith, room, long, sum)
+      left_over (weight_of (log_of old)) (weigh all) (weigh front) (weigh rest) (weight_of (log_of book)) room (weighs_after front old book goes) (ap weigh parted ∙ weigh_both front rest)
 
   -- a round was made after a page that was begun or stays
   pub makes_round : (after place : ℕ) (old mid new : Book D ghosts) (f : FlightParts) (reply : Reply) → due (table_of old) after ≡ Some f → place ≡ f.place
@@ -125,12 +141,12 @@ module _ {D : Type 0} {ghosts : Ghosts D} where
   }
 
   module _ (count made place : ℕ) (first book : Book D ghosts) (p : PageInRun count made place first book) where
-    pub left : HasRoom (turns count 0 (table_of first)) first → length (log_of book) < MAX_ENTRIES
+    pub left : HasRoom (turns count 0 (table_of first)) first → HasSpare book
     left room = room_after (turns count 0 (table_of first)) p.events (turns (count - made) place (table_of book)) first book p.parted room (p.goes room)
 
     -- one round more, after which the page stays
     pub page_more : (f : FlightParts) (mid new : Book D ghosts) → made < count → due (table_of book) place ≡ Some f → table_of mid ≡ table_after (table_of book) (Round f.name)
-        → (length (log_of book) < MAX_ENTRIES → GoesOn (Round f.name ∷ []) book mid) → table_of new ≡ table_of mid → IsSamePage mid new
+        → (HasSpare book → GoesOn (Round f.name ∷ []) book mid) → table_of new ≡ table_of mid → IsSamePage mid new
         → PageInRun count (made + 1) (f.place + 1) first new
     page_more f mid new less is moved one table same =
         let next = turns_step count made place (table_of book) (table_of new) f less is (table ∙ moved) in
@@ -149,7 +165,7 @@ module _ {D : Type 0} {ghosts : Ghosts D} where
         subst (λ (es : List Event). GoesOn es first new) (sym all) (goes_same p.events first book new (p.goes room) same)
 
     -- a fault came
-    pub page_within : (new : Book D ghosts) → (length (log_of book) < MAX_ENTRIES → IsSamePage book new) → HasRoom (turns count 0 (table_of first)) first
+    pub page_within : (new : Book D ghosts) → (HasSpare book → IsSamePage book new) → HasRoom (turns count 0 (table_of first)) first
         → GoesOnWithin (turns count 0 (table_of first)) first new
     page_within new stays room =
         subst (λ (es : List Event). GoesOnWithin es first new) (sym p.parted)

@@ -1,5 +1,5 @@
 -- What one line is answered, and what it leaves.
-use Rattle.std.specs.Prelude.{◌≡◌, ◌≢◌, ◌⊎◌, ◌<◌, ◌≤◌, ◌+◌, ◌-◌, ◌^◌, ℕ, List, [], ◌∷◌, ◌++◌, Ok, Err, false, length, map}
+use Rattle.std.specs.Prelude.{◌≡◌, ◌≢◌, ◌⊎◌, ◌≤◌, ◌+◌, ◌-◌, ◌^◌, ℕ, List, [], ◌∷◌, ◌++◌, Ok, Err, false, map}
 use Rattle.ic_disk.specs.declared.disk.Disk.{Ghosts}
 use Rattle.ic_jobs.specs.declared.event.Event.TheVariants.{Command as by_command}
 use Rattle.ic_jobs.specs.declared.reply.Reply.{Reply}
@@ -11,14 +11,13 @@ use Rattle.ic_jobs.specs.declared.command.Command.{Command}
 use Rattle.ic_lines.specs.Answers.{Reading, events, answer, after_line}
 use Rattle.ic_lines.specs.Serving.{AreRead}
 use Rattle.ic_book.specs.declared.book.Book.{Book}
-use Rattle.ic_book.specs.Book.{disk_of, is_broken, number_of, log_of, table_of, IsUnchanged}
-use Rattle.ic_book.specs.declared.limits.TheConstants.{MAX_ENTRIES}
+use Rattle.ic_book.specs.Book.{disk_of, is_broken, number_of, table_of, IsUnchanged}
 use Rattle.ic_book.specs.Moves.{Move, answers, takes, keeps}
 use Rattle.ic_book.specs.ByCalls.{IsByCalls}
 use Rattle.ic_serving.specs.declared.fault.ServeFault.{ServeFault}
 use Rattle.ic_serving.specs.Booked.{Begins, IsAllKept}
 use Rattle.ic_serving.specs.Faults.{ComesFor}
-use Rattle.ic_serving.specs.Grown.{CallsFew, GoesOn, HasRoom}
+use Rattle.ic_serving.specs.Grown.{CallsFew, GoesOn, HasRoom, HasSpare}
 
 -- what is kept where a line is answered: all, after a command and a run; a blank line and a refused
 -- one change nothing
@@ -35,10 +34,10 @@ IsWholeFor (Ok (Asks command)) new = is_broken new ≡ false
 IsWholeFor (Ok (Run count)) new = is_broken new ≡ false
 IsWholeFor (Err fault) new = Unit {0}
 
--- and where a command is, the numbers of the slots weren't used up, unless a page was begun for it
+-- and where a command is, the numbers of the slots weren't used up
 abbrev pub IsFreshFor : {D : Type 0} {ghosts : Ghosts D} → Reading → (old : Book D ghosts) → Type 0
 IsFreshFor (Ok Blank) old = Unit {0}
-IsFreshFor (Ok (Asks command)) old = length (log_of old) < MAX_ENTRIES → number_of old ≢ 2 ^ 64 - 1
+IsFreshFor (Ok (Asks command)) old = number_of old ≢ 2 ^ 64 - 1
 IsFreshFor (Ok (Run count)) old = Unit {0}
 IsFreshFor (Err fault) old = Unit {0}
 
@@ -132,9 +131,9 @@ pub record IsGroupAnswered {D : Type 0} {ghosts : Ghosts D} (ls : List (List ℕ
   pub table : table_of new ≡ table_of between
   pub all : IsAllKept new
   pub whole : is_broken new ≡ false
-  pub fresh : length (log_of old) < MAX_ENTRIES → number_of old ≢ 2 ^ 64 - 1
+  pub fresh : number_of old ≢ 2 ^ 64 - 1
   pub page : HasRoom (map by_command commands) old → GoesOn (map by_command commands) old new
-  pub calls : length (log_of old) < MAX_ENTRIES
+  pub calls : HasSpare old
       → ghosts.clock (disk_of new) ≤ ghosts.clock (disk_of old) + 6
 
 -- Lines are answered at once: one line by itself, or such a group.

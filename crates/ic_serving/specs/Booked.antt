@@ -1,5 +1,5 @@
 -- What a serving speaks of in a book.
-use Rattle.std.specs.Prelude.{◌≡◌, ◌⊎◌, ℕ, ◌-◌, ◌<◌, List, [], ◌∷◌, Some, length}
+use Rattle.std.specs.Prelude.{◌≡◌, ◌⊎◌, ℕ, ◌-◌, List, [], ◌∷◌, Some, length}
 use Rattle.ic_disk.specs.declared.disk.Disk.{Ghosts}
 use Rattle.ic_flights.specs.Flight.{FlightParts}
 use Rattle.ic_jobs.specs.Job.{JobParts}
@@ -10,9 +10,8 @@ use Rattle.ic_jobs.specs.Landing.{due}
 use Rattle.ic_book.specs.declared.book.Book.{Book}
 use Rattle.ic_book.specs.Book.{start_of, log_of, table_of, kept_of}
 use Rattle.ic_book.specs.Left.{table_kept}
-use Rattle.ic_book.specs.declared.limits.TheConstants.{MAX_ENTRIES}
 use Rattle.ic_serving.specs.Parts.{IsPart, IsKeptWithin}
-use Rattle.ic_serving.specs.Grown.{IsSamePage, GoesOn, GoesOnWithin, HasRoom}
+use Rattle.ic_serving.specs.Grown.{IsSamePage, GoesOn, GoesOnWithin, HasRoom, HasSpare}
 
 -- the table that was kept last
 abbrev pub last_kept : {D : Type 0} {ghosts : Ghosts D} → Book D ghosts → List JobParts
@@ -32,7 +31,7 @@ unkept_of book = length (log_of book) - kept_of book
 pub record StaysPut {D : Type 0} {ghosts : Ghosts D} (old new : Book D ghosts) : Type 0 where
   pub table : table_of new ≡ table_of old
   pub kept : (last_kept new ≡ last_kept old) ⊎ (last_kept new ≡ table_of old)
-  pub page : length (log_of old) < MAX_ENTRIES → IsSamePage old new
+  pub page : HasSpare old → IsSamePage old new
 
 -- one event comes to the table, and it isn't kept; what was there before may be kept now
 pub record Advances {D : Type 0} {ghosts : Ghosts D} (e : Event) (old new : Book D ghosts) : Type 0 where
@@ -45,7 +44,7 @@ pub record MakesRound {D : Type 0} {ghosts : Ghosts D} (after place : ℕ) (old 
   pub is_due : due (table_of old) after ≡ Some flight
   pub here : place ≡ flight.place
   pub advances : Advances (Round flight.name) old new
-  pub page : length (log_of old) < MAX_ENTRIES → GoesOn (Round flight.name ∷ []) old new
+  pub page : HasSpare old → GoesOn (Round flight.name ∷ []) old new
 
 -- ---- of a line that is begun
 

@@ -4,9 +4,10 @@ use Rattle.std.specs.List.{AllByRecursion}
 use Rattle.ic_disk.specs.declared.disk.Disk.{Ghosts}
 use Rattle.ic_jobs.specs.declared.event.Event.{Event}
 use Rattle.ic_jobs.specs.declared.event.Entry.{Entry}
-use Rattle.ic_book.specs.declared.limits.TheConstants.{MAX_ENTRIES}
 use Rattle.ic_book.specs.declared.book.Book.{Book}
 use Rattle.ic_book.specs.Book.{start_of, log_of, disk_of}
+use Rattle.ic_book.specs.Weight.{weigh, weight_of}
+use Rattle.ic_serving.specs.declared.limits.TheConstants.{PAGE_WEIGHT}
 
 -- the page is the same: it begins with the same table, and has the same entries
 pub record IsSamePage {D : Type 0} {ghosts : Ghosts D} (old new : Book D ghosts) : Type 0 where
@@ -29,11 +30,15 @@ pub record GoesOnWithin {D : Type 0} {ghosts : Ghosts D} (es : List Event) (old 
   pub parted : es ≡ front ++ rest
   pub goes : GoesOn front old new
 
--- the log has room for so many events, and for one more
-abbrev pub HasRoom : {D : Type 0} {ghosts : Ghosts D} → List Event → Book D ghosts → Type 0
-HasRoom es book = length (log_of book) + length es < MAX_ENTRIES
+-- the page has room for an event: it ends once its entries weigh so much
+abbrev pub HasSpare : {D : Type 0} {ghosts : Ghosts D} → Book D ghosts → Type 0
+HasSpare book = weight_of (log_of book) < PAGE_WEIGHT
 
--- Where the log has such room, at most six calls to the disk are made for each `every` of these
+-- it has room for these events, and for one more
+abbrev pub HasRoom : {D : Type 0} {ghosts : Ghosts D} → List Event → Book D ghosts → Type 0
+HasRoom es book = weight_of (log_of book) + weigh es < PAGE_WEIGHT
+
+-- Where the page has such room, at most six calls to the disk are made for each `every` of these
 -- events, and six at their end.
 abbrev pub CallsFew : {D : Type 0} {ghosts : Ghosts D} → List Event → (every : ℕ)
     → (old new : Book D ghosts) → Type 0

@@ -1,8 +1,7 @@
 //! Answering one line over a book.
 
-ghost use Rattle.std.specs.Prelude.{true, false, ◌≡◌, ◌≢◌, ◌⊎◌, ◌<◌, ◌≤◌, ◌+◌, ◌-◌, ◌^◌, length, [], ◌∷◌, Ok, OnOk, OnErr, IfErr, IfOk};
+ghost use Rattle.std.specs.Prelude.{true, false, ◌≡◌, ◌≢◌, ◌⊎◌, ◌<◌, ◌≤◌, ◌+◌, ◌-◌, ◌^◌, [], ◌∷◌, Ok, OnOk, OnErr, IfErr, IfOk};
 ghost use Rattle.ic_book.specs.Book.{is_broken, number_of, log_of, table_of, disk_of};
-ghost use Rattle.ic_book.specs.declared.limits.TheConstants.{MAX_ENTRIES};
 ghost use Rattle.ic_jobs.specs.declared.event.Event.TheVariants.{Command as by_command};
 ghost use Rattle.ic_commands.specs.declared.line.Line.TheVariants.{Command as Asks, Run};
 ghost use Rattle.ic_text.specs.Text.{fault_text};
@@ -13,8 +12,10 @@ ghost use Rattle.ic_lines.specs.Answers.{answer, after_line, events};
 ghost use Rattle.ic_serving.specs.Booked.{last_kept, unkept_of, Begins, IsAllKept};
 ghost use Rattle.ic_serving.specs.Parts.{IsBeforeRound, IsKeptWithin};
 ghost use Rattle.ic_book.specs.Moves.{keeps};
+ghost use Rattle.ic_book.specs.Weight.{weight, weight_of};
+ghost use Rattle.ic_serving.specs.declared.limits.TheConstants.{PAGE_WEIGHT};
 ghost use Rattle.ic_serving.specs.Answered.{CallsFewFor, EndsWith, IsAnswered, IsBegun, IsReplied};
-ghost use Rattle.ic_serving.specs.Grown.{CallsFew, GoesOn, HasRoom};
+ghost use Rattle.ic_serving.specs.Grown.{CallsFew, GoesOn, HasRoom, HasSpare};
 ghost use Rattle.ic_serving.specs.Moments.{FaultLeaves, Leaves, IsKeptInLine};
 ghost use Rattle.ic_serving.specs.Faults.{ComesAlone, ComesBroken, ComesFor, ComesInLine, ComesUnmade, ComesWithoutRound};
 ghost use Rattle.ic_serving.specs.inner.Reading.{IsAnsweredAs};
@@ -152,8 +153,7 @@ pub fn answer_command<D: Disk>(
     ensures kept { OnOk result (IsAllKept book.new) }
     ensures whole { OnOk result (is_broken book.new ≡ false) }
     ensures replied { IfOk result (λ bytes. IsReplied command bytes.items book.old book.new) }
-    ensures fresh { OnOk result (length (log_of book.old) < MAX_ENTRIES
-        → number_of book.old ≢ 2 ^ 64 - 1) }
+    ensures fresh { OnOk result (number_of book.old ≢ 2 ^ 64 - 1) }
     ensures page { OnOk result (HasRoom (by_command command ∷ []) book.old
         → GoesOn (by_command command ∷ []) book.old book.new) }
     ensures begun { OnErr result (Begins (by_command command ∷ []) book.old book.new) }
@@ -163,7 +163,9 @@ pub fn answer_command<D: Disk>(
     ensures unbroken { OnOk result (is_broken book.old ≡ false) }
     ensures alone { IfErr result ComesAlone }
     ensures few_unkept { unkept_of book.new ≤ unkept_of book.old + 1 }
-    ensures few_calls { length (log_of book.old) < MAX_ENTRIES
+    ensures bounded { OnOk result (weight_of (log_of book.new)
+        < PAGE_WEIGHT + weight (by_command command)) }
+    ensures few_calls { HasSpare book.old
         → D.clock (disk_of book.new) ≤ D.clock (disk_of book.old) + 6 }
     ensures crash { Leaves book.old book.new (IsKeptWithin (table_of book.old)
         (last_kept book.old) (by_command command ∷ [])) }

@@ -23,7 +23,7 @@ mod writing;
 
 pub use answering::{answer_command, answer_line};
 pub use fault::ServeFault;
-pub use limits::MAX_LINES;
+pub use limits::{MAX_LINES, PAGE_WEIGHT};
 pub use makers::Makers;
 pub use rounds::{keep_all, make_round};
 pub use running::{count_running, keep_each};

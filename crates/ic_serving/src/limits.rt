@@ -3,5 +3,8 @@
 /// Lines that are served, blank and refused ones counted.
 pub const MAX_LINES: usize = 1_000_000;
 
+/// What the entries of a page weigh, in units of 1,024 bytes, before a new page begins: 64 MB.
+pub const PAGE_WEIGHT: u64 = 65_536;
+
 /// A lap of fewer equations is left to the thread that serves, since workers would take longer.
 pub(crate) const ENOUGH: usize = 2_000;

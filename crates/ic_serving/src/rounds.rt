@@ -9,25 +9,28 @@ ghost use Rattle.ic_jobs.specs.Landing.{due, Awaits};
 ghost use Rattle.ic_book.specs.declared.limits.TheConstants.{MAX_ENTRIES};
 ghost use Rattle.ic_book.specs.Book.{is_broken, start_of, table_of, log_of, kept_of, number_of, keeper_of, disk_of, IsUnchanged};
 ghost use Rattle.ic_book.specs.Entries.{round_entry};
+ghost use Rattle.ic_book.specs.Weight.{weight_of};
+ghost use Rattle.ic_serving.specs.declared.limits.TheConstants.{PAGE_WEIGHT};
 ghost use Rattle.ic_serving.specs.Booked.{last_kept, unkept_of, IsAllKept, Advances, MakesRound, StaysPut};
 ghost use Rattle.ic_book.specs.ByCalls.{IsByCalls};
 ghost use Rattle.ic_book.specs.Moves.{keeps};
 ghost use Rattle.ic_book.specs.declared.fault.BookFault.TheVariants as of_book;
 ghost use Rattle.ic_serving.specs.Answered.{EndsWith};
 ghost use Rattle.ic_serving.specs.Faults.{ComesAlone, ComesBroken, ComesInLine, ComesUnmade, ComesWithoutRound};
-ghost use Rattle.ic_serving.specs.Grown.{IsSamePage};
+ghost use Rattle.ic_serving.specs.Grown.{HasSpare, IsSamePage};
 ghost use Rattle.ic_serving.specs.Moments.{FaultLeaves, Leaves, IsKeptOrNow};
 
 use crate::fault::ServeFault;
+use crate::limits::PAGE_WEIGHT;
 use crate::makers::Makers;
-use ic_book::{Book, MAX_ENTRIES};
+use ic_book::Book;
 use ic_disk::Disk;
 use ic_flights::Flight;
 use std::alloc::Global;
 use std::sync::Wait;
 use std::thread::Threads;
 
-/// Begins a new page where the history is full, so that one more event can come.
+/// Begins a new page where the entries of this one weigh too much, so that one more event can come.
 pub(crate) fn make_room<D: Disk>(alloc: Global, book: &mut Book<D>) -> Result<(), ServeFault>
     ensures stays { StaysPut book.old book.new }
     ensures fault { FaultLeaves ComesInLine result book.old book.new }
@@ -36,13 +39,19 @@ pub(crate) fn make_room<D: Disk>(alloc: Global, book: &mut Book<D>) -> Result<()
     ensures comes { IfErr result ComesWithoutRound }
     ensures broken { is_broken book.old ≡ true → IfErr result ComesBroken }
     ensures still { OnOk result (is_broken book.new ≡ is_broken book.old) }
-    ensures spare { OnOk result (length (log_of book.new) < MAX_ENTRIES) }
-    ensures idle { length (log_of book.old) < MAX_ENTRIES → IsOk result }
-    ensures room { length (log_of book.old) < MAX_ENTRIES → IsUnchanged book.old book.new }
+    ensures spare { OnOk result (HasSpare book.new) }
+    ensures short { OnOk result (length (log_of book.new) < MAX_ENTRIES) }
+    ensures idle { HasSpare book.old → IsOk result }
+    ensures room { HasSpare book.old → IsUnchanged book.old book.new }
+    ensures turned { PAGE_WEIGHT ≤ weight_of (log_of book.old)
+        → OnOk result (log_of book.new ≡ []) }
+    ensures worn { OnOk result (number_of book.old ≡ 2 ^ 64 - 1
+        → number_of book.new ≡ 2 ^ 64 - 1) }
     ensures crash { Leaves book.old book.new (IsKeptOrNow book.old) }
 {
     book.facts();
-    if book.log().len() < MAX_ENTRIES {
+    let weight = book.weight();
+    if weight < PAGE_WEIGHT {
         return Ok(());
     }
     book.new_page(alloc)?;
@@ -104,8 +113,7 @@ pub fn make_round<T: Threads + Wait + Copy + Send + 'static, D: Disk>(
     ensures fault { FaultLeaves ComesInLine result book.old book.new }
     ensures alone { workers ≡ 1 → IfErr result ComesAlone }
     ensures one { unkept_of book.new ≤ unkept_of book.old + 1 }
-    ensures still { length (log_of book.old) < MAX_ENTRIES
-        → keeper_of book.new ≡ keeper_of book.old }
+    ensures still { HasSpare book.old → keeper_of book.new ≡ keeper_of book.old }
     ensures crash { Leaves book.old book.new (IsKeptOrNow book.old) }
 {
     book.facts();

@@ -2,7 +2,6 @@
 
 ghost use Rattle.std.specs.Prelude.{false, true, ◌≡◌, ◌≢◌, ◌<◌, ◌≤◌, ◌+◌, ◌-◌, ◌^◌, ℕ, List, length, [], ◌∷◌, Ok, OnOk, OnErr, IfErr, IfOk, IfSome, is_ok};
 ghost use Rattle.ic_book.specs.Book.{is_broken, keeper_of, log_of, number_of, table_of};
-ghost use Rattle.ic_book.specs.declared.limits.TheConstants.{MAX_ENTRIES};
 ghost use Rattle.ic_jobs.specs.declared.event.Event.TheVariants.{Command as by_command};
 ghost use Rattle.ic_commands.specs.declared.line.Line.TheVariants.{Command as Asks};
 ghost use Rattle.ic_commands.specs.LineText.{ReadsLine};
@@ -11,9 +10,10 @@ ghost use Rattle.ic_text.specs.declared.limits.TheConstants.{MAX_TEXT};
 ghost use Rattle.ic_serving.specs.Booked.{last_kept, unkept_of, Begins};
 ghost use Rattle.ic_serving.specs.Parts.{IsKeptWithin};
 ghost use Rattle.ic_serving.specs.Answered.{IsTaken};
-ghost use Rattle.ic_serving.specs.Grown.{GoesOn, HasRoom};
+ghost use Rattle.ic_serving.specs.Grown.{GoesOn, HasRoom, HasSpare};
 ghost use Rattle.ic_serving.specs.Moments.{FaultLeaves, Leaves};
-ghost use Rattle.ic_serving.specs.declared.limits.TheConstants.{MAX_LINES};
+ghost use Rattle.ic_book.specs.Weight.{weight, weight_of};
+ghost use Rattle.ic_serving.specs.declared.limits.TheConstants.{MAX_LINES, PAGE_WEIGHT};
 ghost use Rattle.ic_serving.specs.inner.Group.{TakesReady};
 ghost use Rattle.ic_serving.specs.Faults.{ComesAlone, ComesBroken, ComesInLine, ComesWithoutRound};
 
@@ -35,7 +35,7 @@ pub(crate) struct Answered {
 }
 
 /// Does what a command asks, and answers what is to be written for it once a keep has kept it, for a
-/// loop of one's own. Where the history is full, what came before is kept and a page begins.
+/// loop of one's own. Where the page is full, what came before is kept and a page begins.
 pub fn take_command<D: Disk>(
     alloc: Global,
     book: &mut Book<D>,
@@ -43,8 +43,7 @@ pub fn take_command<D: Disk>(
 ) -> Result<Vec<u8>, ServeFault>
     ensures whole { OnOk result (is_broken book.new ≡ false) }
     ensures taken { IfOk result (λ bytes. IsTaken command bytes.items book.old book.new) }
-    ensures fresh { OnOk result (length (log_of book.old) < MAX_ENTRIES
-        → number_of book.old ≢ 2 ^ 64 - 1) }
+    ensures fresh { OnOk result (number_of book.old ≢ 2 ^ 64 - 1) }
     ensures page { OnOk result (HasRoom (by_command command ∷ []) book.old
         → GoesOn (by_command command ∷ []) book.old book.new) }
     ensures begun { Begins (by_command command ∷ []) book.old book.new }
@@ -54,8 +53,9 @@ pub fn take_command<D: Disk>(
     ensures unbroken { OnOk result (is_broken book.old ≡ false) }
     ensures alone { IfErr result ComesAlone }
     ensures few_unkept { unkept_of book.new ≤ unkept_of book.old + 1 }
-    ensures still { length (log_of book.old) < MAX_ENTRIES
-        → keeper_of book.new ≡ keeper_of book.old }
+    ensures bounded { OnOk result (weight_of (log_of book.new)
+        < PAGE_WEIGHT + weight (by_command command)) }
+    ensures still { HasSpare book.old → keeper_of book.new ≡ keeper_of book.old }
     ensures crash { Leaves book.old book.new (IsKeptWithin (table_of book.old)
         (last_kept book.old) (by_command command ∷ [])) }
 {

@@ -11,6 +11,7 @@ ghost use Rattle.ic_frames.specs.Places.{place};
 ghost use Rattle.ic_book.specs.declared.fault.BookFault.{BookFault};
 ghost use Rattle.ic_book.specs.Book.{disk_of, kept_of, log_of};
 ghost use Rattle.ic_book.specs.Calls.{KeepsAll};
+ghost use Rattle.ic_book.specs.Weight.{weight_of};
 ghost use Rattle.ic_commands.specs.declared.line.Line.TheVariants.{Run};
 ghost use Rattle.ic_commands.specs.LineText.{ReadsLine};
 ghost use Rattle.ic_serving.specs.Answered.{CallsFewFor};
@@ -34,11 +35,11 @@ pub fn a_keep_makes_few_calls<D: Disk>(old: &Book<D>, new: &Book<D>)
     let _ = new;
 }
 
-/// Where the log has room for K entries and one more, a `run` of K rounds makes at most six calls to
+/// Where the page has room for K rounds and one more, a `run` of K rounds makes at most six calls to
 /// the disk for each `every` of them, and six at the end.
 pub fn a_run_makes_few_calls<D: Disk>(before: &Book<D>, after: &Book<D>)
     ensures { (line : List ℕ) (k every : ℕ) → 1 ≤ every → ReadsLine line (Ok (Run k))
-        → CallsFewFor line every before.now after.now → length (log_of before.now) + k < 65536
+        → CallsFewFor line every before.now after.now → weight_of (log_of before.now) + k < 65536
         → D.clock (disk_of after.now) ≤ D.clock (disk_of before.now) + 6 * (k / every + 1) }
 {
     ic_commands::laws::one_line_reading();

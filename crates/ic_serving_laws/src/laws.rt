@@ -31,6 +31,7 @@ ghost use Rattle.ic_disk.specs.Images.{Within};
 ghost use Rattle.ic_frames.specs.Fields.{IsMade};
 ghost use Rattle.ic_book.specs.ByCalls.{IsOnMadeDisk};
 ghost use Rattle.ic_book.specs.Book.{is_broken, number_of, start_of, log_of, table_of, kept_of, disk_of, IsUnchanged};
+ghost use Rattle.ic_book.specs.Weight.{weigh, weight_of};
 ghost use Rattle.ic_serving.specs.declared.fault.ServeFault.{ServeFault};
 ghost use Rattle.ic_serving.specs.declared.fault.ServeFault.TheVariants.{Read, Write, TooManyLines, Book as by_book, Pool, LongLine, Memory};
 ghost use Rattle.ic_serving.specs.Answered.{IsAnswered, IsBegun};
@@ -355,8 +356,7 @@ pub fn an_answered_line_tells_of_its_book<D: Disk>(before: &Book<D>, after: &Boo
     ensures whole_run { (line bytes : List ℕ) (k : ℕ) → ReadsLine line (Ok (Run k))
         → IsAnswered line bytes before.now after.now → is_broken after.now ≡ false }
     ensures fresh { (line bytes : List ℕ) (c : Command) → ReadsLine line (Ok (Asks c))
-        → IsAnswered line bytes before.now after.now → length (log_of before.now) < 65536
-        → number_of before.now ≢ 2 ^ 64 - 1 }
+        → IsAnswered line bytes before.now after.now → number_of before.now ≢ 2 ^ 64 - 1 }
     ensures page { (line bytes : List ℕ) (a : Reading) → ReadsLine line a
         → IsAnswered line bytes before.now after.now
         → HasRoom (events (table_of before.now) a) before.now
@@ -371,7 +371,8 @@ pub fn an_answered_line_tells_of_its_book<D: Disk>(before: &Book<D>, after: &Boo
 
 /// A page that goes on begins with the table that it began with, and its log is the one that it had
 /// with the entries of these events after it, one for each, in their order, sent by 0. So the old
-/// log is a front of the new one. It goes on within events by the first so many of them.
+/// log is a front of the new one. It goes on within events by the first so many of them. It has room
+/// for events where they and its entries weigh less than 65,536 in units of 1,024 bytes.
 pub fn a_page_goes_on<D: Disk>(before: &Book<D>, after: &Book<D>)
     ensures start { (es : List Event) → GoesOn es before.now after.now
         → start_of after.now ≡ start_of before.now }
@@ -385,7 +386,7 @@ pub fn a_page_goes_on<D: Disk>(before: &Book<D>, after: &Book<D>)
     ensures within { (es : List Event) → GoesOnWithin es before.now after.now
         → (n : ℕ) × (n ≤ length es) × GoesOn (take n es) before.now after.now }
     ensures room { (es : List Event) → HasRoom es before.now
-        ↔ (length (log_of before.now) + length es < 65536) }
+        ↔ (weight_of (log_of before.now) + weigh es < 65536) }
 {}
 
 /// `Device` says that one more failure of the disk was counted, or that the count is at its end, and

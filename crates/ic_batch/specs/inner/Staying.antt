@@ -1,9 +1,11 @@
 -- For private functions: what a part of a batch leaves on its way.
-use Rattle.std.specs.Prelude.{◌≡◌, ◌≤◌, ◌+◌, ◌*◌, List, ◌++◌, length, map}
+use Rattle.std.specs.Prelude.{◌≡◌, ◌≤◌, ◌+◌, ◌*◌, List, ◌++◌, map}
 use Rattle.ic_disk.specs.declared.disk.Disk.{Ghosts}
 use Rattle.ic_jobs.specs.Job.{JobParts}
 use Rattle.ic_book.specs.declared.book.Book.{Book}
 use Rattle.ic_book.specs.Book.{disk_of, log_of, table_of}
+use Rattle.ic_book.specs.Weight.{weight_of}
+use Rattle.ic_book.specs.declared.limits.TheConstants.{SYSTEM_WEIGHT}
 use Rattle.ic_serving.specs.Booked.{last_kept}
 use Rattle.ic_serving.specs.Moments.{Leaves}
 use Rattle.ic_batch.specs.declared.jobs.NewJob.{NewJob}
@@ -28,6 +30,6 @@ pub record AreBegun (jobs : List NewJob) (old t : List JobParts) : Type 0 where
 
 -- the jobs that have come to the table stand in the log, and at most six calls were made for each
 pub record HaveCome {D : Type 0} {ghosts : Ghosts D} (old new : Book D ghosts) : Type 0 where
-  pub log : length (log_of new) ≡ length (log_of old) + come_to (table_of old) (table_of new)
+  pub log : weight_of (log_of new) ≡ weight_of (log_of old) + SYSTEM_WEIGHT * come_to (table_of old) (table_of new)
   pub clock : ghosts.clock (disk_of new)
       ≤ ghosts.clock (disk_of old) + 6 * come_to (table_of old) (table_of new)

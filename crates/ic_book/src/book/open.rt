@@ -9,6 +9,7 @@ ghost use Rattle.ic_book.specs.Opened.{disk_after, outcome_of};
 ghost use Rattle.ic_book.specs.Server.{StepsByOpening};
 
 use super::Book;
+use crate::log::Log;
 use ic_disk::Disk;
 use ic_slots::{Keeper, OpenCause, OpenFault};
 use std::alloc::Global;
@@ -33,7 +34,7 @@ impl<D: Disk> Book<D> {
                 match table.copy(alloc) {
                     Ok(start) => Ok(Book {
                         start,
-                        log: Vec::new(alloc),
+                        log: Log::new(alloc),
                         table,
                         kept: 0,
                         keeper,

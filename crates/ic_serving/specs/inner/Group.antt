@@ -12,13 +12,12 @@ use Rattle.ic_lines.specs.Serving.{IsServed}
 use Rattle.ic_lines.specs.Taking.{BufferParts, to_come}
 use Rattle.ic_lines.specs.Turns.{after_events}
 use Rattle.ic_book.specs.declared.book.Book.{Book}
-use Rattle.ic_book.specs.declared.limits.TheConstants.{MAX_ENTRIES}
-use Rattle.ic_book.specs.Book.{disk_of, keeper_of, log_of, number_of, table_of, IsUnchanged}
+use Rattle.ic_book.specs.Book.{disk_of, keeper_of, number_of, table_of, IsUnchanged}
 use Rattle.ic_serving.specs.declared.fault.ServeFault.{ServeFault}
 use Rattle.ic_serving.specs.Answered.{AreAnsweredAtOnce, AreTaken, AskFor, EndsWith}
 use Rattle.ic_book.specs.Moves.{keeps}
 use Rattle.ic_serving.specs.Booked.{last_kept, unkept_of, Begins, IsAllKept}
-use Rattle.ic_serving.specs.Grown.{GoesOn, HasRoom}
+use Rattle.ic_serving.specs.Grown.{GoesOn, HasRoom, HasSpare}
 use Rattle.ic_serving.specs.Moments.{Leaves}
 use Rattle.ic_serving.specs.Parts.{IsInFew, IsKeptWithin}
 use Rattle.ic_serving.specs.Served.{ComesAt}
@@ -100,9 +99,9 @@ pub record IsGroupDone {D : Type 0} {ghosts : Ghosts D} (most : ℕ) (first : Co
   pub taken : AreTaken (first ∷ commands) bytes old between
   pub kept : EndsWith keeps between new
   pub table : table_of new ≡ table_of between
-  pub fresh : length (log_of old) < MAX_ENTRIES → number_of old ≢ 2 ^ 64 - 1
+  pub fresh : number_of old ≢ 2 ^ 64 - 1
   pub come : HaveCome (asked (first ∷ commands)) old new
-  pub calls : length (log_of old) < MAX_ENTRIES → ghosts.clock (disk_of new) ≤ ghosts.clock (disk_of old) + 6
+  pub calls : HasSpare old → ghosts.clock (disk_of new) ≤ ghosts.clock (disk_of old) + 6
 
 -- and where a fault came
 pub record IsGroupBegun {D : Type 0} {ghosts : Ghosts D} (most : ℕ) (first : Command) (before after : BufferParts)

@@ -1,4 +1,5 @@
 use Rattle.std.proofs.Common.{◌≡◌, ℕ, true, false, sym, subst, ◌∙◌, inr}
+use Rattle.ic_book.specs.Book.{log_of}
 use Rattle.ic_attend.specs.Parts.{AreOfClients}
 use Rattle.ic_attend.proofs.Exact.{agrees_of}
 use Rattle.ic_attend.proofs.PartLemmas.{runs_counted}
@@ -14,7 +15,7 @@ returns-clause-history g c =
     record {
       legal = history.legal;
       replayed = history.replayed;
-      clients = subst (λ (n : ℕ). AreOfClients n c.finish.result.log.items) (runs_counted _ _ runs) clients;
+      clients = subst (λ (n : ℕ). AreOfClients n (log_of c.finish.result)) (runs_counted _ _ runs) clients;
       answers = agrees.answers;
       after = agrees.after;
       failed = agrees.failed;

@@ -91,7 +91,7 @@ loop-place-preserved g c =
       broken = λ is. (let bad = c.in_ok-make_round.ensures.broken.1 (c.loop-place.invariant.broken is) in cc);
       calls = made_more c.loop-place.made c.args.every c.args.book.now c.loop-place.book c.requires.every c.loop-place.invariant.calls _ (Round round.event) c.make_round.new.book c.keep_each.new.book
           refl (one_event c.args.most (table_of c.args.book.now) (table_of c.loop-place.book) (table_of c.make_round.new.book) (subst IsTable c.table.ensures c.jobs.ensures.sound) round.made
-          c.loop-place.invariant.leads.table) round.page c.make_round.ensures.still c.keep_each.ensures.table c.keep_each.ensures.page c.keep_each.ensures.calls c.keep_each.ensures.stays;
+          c.loop-place.invariant.leads.table) refl round.page c.make_round.ensures.still c.keep_each.ensures.table c.keep_each.ensures.page c.keep_each.ensures.calls c.keep_each.ensures.stays;
       few_unkept = λ all. due_within c.loop-place.made _ c.args.every (unkept_of c.loop-place.book) (unkept_of c.make_round.new.book) (unkept_of c.keep_each.new.book)
           c.requires.every (wraps c.loop-place.made (omega arith)) (c.loop-place.invariant.few_unkept all) c.make_round.ensures.one c.keep_each.ensures.fewer
           (λ due. none_unkept c.keep_each.new.book (c.in_ok-keep_each.ensures.due due));
@@ -185,5 +185,5 @@ returns-in_err-keep_each-clause-few_calls g c = λ room.
     c.loop-place.invariant.leads in
     let made = one_event c.args.most (table_of c.args.book.now) (table_of c.loop-place.book) (table_of c.make_round.new.book) (subst IsTable c.table.ensures c.jobs.ensures.sound) round.made c.loop-place.invariant.leads.table in
     let more = made_more c.loop-place.made c.args.every c.args.book.now c.loop-place.book c.requires.every c.loop-place.invariant.calls _ (Round round.event) c.make_round.new.book c.keep_each.new.book
-    refl made round.page c.make_round.ensures.still c.keep_each.ensures.table c.keep_each.ensures.page c.keep_each.ensures.calls c.keep_each.ensures.stays room in
+    refl made refl round.page c.make_round.ensures.still c.keep_each.ensures.table c.keep_each.ensures.page c.keep_each.ensures.calls c.keep_each.ensures.stays room in
     calls_then _ c.args.every c.args.book.now c.keep_each.new.book c.requires.every (λ room. more) c.keep_each.new.book refl (λ spare. refl) room

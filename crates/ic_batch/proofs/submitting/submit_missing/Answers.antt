@@ -1,9 +1,11 @@
 use Rattle.std.proofs.Common.{◌≡◌, ◌+◌, ◌∙◌, inl, inr, List, [], ◌≤◌, ap, drop, length, sym, refl, subst, arith, true≢false}
 use Rattle.std.proofs.lemmas.List.{drop_all}
+use Rattle.ic_jobs.specs.declared.command.Command.{Command}
 use Rattle.ic_jobs.specs.declared.event.Event.TheVariants.{Command as by_command}
 use Rattle.ic_jobs.specs.History.{table_after}
 use Rattle.ic_jobs.specs.Job.{JobParts}
 use Rattle.ic_book.specs.Book.{table_of, start_of, log_of, kept_of}
+use Rattle.ic_book.specs.Weight.{weight}
 use Rattle.ic_book.specs.lemmas.Chains.{by_nothing}
 use Rattle.ic_book.specs.lemmas.Facts.{history_of}
 use Rattle.ic_serving.specs.Booked.{last_kept}
@@ -83,7 +85,7 @@ loop-new-preserved g c =
             ready = λ whole. w.in_ok-answer_command.ensures.fault.ready (c.loop-new.invariant.ready whole);
             broken = λ is. (let off = w.in_ok-answer_command.ensures.unbroken in absurd (true≢false (sym (c.loop-new.invariant.broken is) ∙ off)));
             come = λ room. come_more old mid (none_lost jobs t (drop i jobs) (table_of mid) c.loop-new.invariant.so_far) c.loop-new.invariant.come e later
-                (ap length w.in_ok-answer_command.ensures.table ∙ longer_here jobs t i new (table_of mid) split c.loop-new.invariant.so_far c.requires.room (is ∙ w.if-is_missing.true)
+                (ap (λ (m : Command). weight (by_command m)) w.in_ok-command.ensures) (ap length w.in_ok-answer_command.ensures.table ∙ longer_here jobs t i new (table_of mid) split c.loop-new.invariant.so_far c.requires.room (is ∙ w.if-is_missing.true)
                 w.in_ok-command.command w.in_ok-command.ensures) w.in_ok-answer_command.ensures.page w.answer_command.ensures.few_calls room;
             all = λ before. w.in_ok-answer_command.ensures.kept;
           })

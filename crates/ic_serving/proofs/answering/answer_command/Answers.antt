@@ -2,16 +2,16 @@ use Rattle.std.proofs.Common.{◌≡◌, ◌-◌, ◌^◌, false, inl, inr, Err,
 use Rattle.ic_jobs.specs.declared.event.Event.TheVariants.{Command as by_command}
 use Rattle.ic_jobs.specs.History.{table_after}
 use Rattle.ic_book.specs.Book.{is_broken, number_of, table_of, start_of, log_of, kept_of, disk_of, IsUnchanged}
-use Rattle.ic_slots.specs.declared.keeper.Keeper.{Keeper}
-use Rattle.ic_slots.specs.Keeper as keeper_parts
 use Rattle.ic_book.specs.Entries.{command_entry}
+use Rattle.ic_book.specs.Weight.{weight, weight_of}
+use Rattle.ic_book.specs.lemmas.Weights.{weigh_one}
 use Rattle.ic_serving.specs.Booked.{last_kept}
 use Rattle.ic_serving.proofs.RunLemmas.{kept_same, on_err}
 use Rattle.ic_book.specs.lemmas.Chains.{answer_moves, by_answer, by_failure, by_refusal}
 use Rattle.ic_serving.specs.lemmas.Reaching.{kept_all}
 use Rattle.ic_serving.specs.lemmas.Unkept.{none_unkept, one_unkept, same_unkept}
 use Rattle.ic_serving.proofs.LineLemmas.{device_or_not, begun_none, begun_one, begun_kept, after_event, kept_after}
-use Rattle.ic_serving.proofs.PageLemmas.{command_goes, one_room, same_then, within_all, within_none}
+use Rattle.ic_serving.proofs.PageLemmas.{command_goes, one_more, one_room, same_then, within_all, within_none}
 use Rattle.ic_serving.specs.Parts.{IsKeptWithin}
 use Rattle.ic_serving.specs.Moments.{IsKeptOrNow}
 use Rattle.ic_serving.proofs.StopLemmas.{kept_or_now, leaves_still, leaves_command}
@@ -120,13 +120,15 @@ returns-clause-page g c = λ room. command_goes c.args.command c.in_ok-reply.rep
     (c.in_ok-make_room.ensures.stays.page (one_room c.args.book.now c.args.command room)) c.command.ensures.start c.in_ok-reply.ensures.step.answered.page.0.adds.entry
 
 pub returns-clause-fresh : goal.returns-clause-fresh
-returns-clause-fresh g c = λ room worn.
-    let same : IsUnchanged c.args.book.now c.make_room.new.book = c.make_room.ensures.room room in
-    let number : number_of c.make_room.new.book ≡ 2 ^ 64 - 1 =
-    ap (λ (k : Keeper g.row.D.Denot g.D.Disk). keeper_parts.number_of k) same.same_keeper ∙ worn in
+returns-clause-fresh g c = λ worn.
+    let number : number_of c.make_room.new.book ≡ 2 ^ 64 - 1 = c.in_ok-make_room.ensures.worn worn in
     let whole : is_broken c.make_room.new.book ≡ false =
     not_true (is_broken c.make_room.new.book) (λ is. (let told = c.in_ok-reply.ensures.fault.broken.1 is in cc)) in
-    let told = c.in_ok-reply.ensures.worn.1 (whole, c.in_ok-make_room.ensures.spare, number) in cc
+    let told = c.in_ok-reply.ensures.worn.1 (whole, c.in_ok-make_room.ensures.short, number) in cc
+
+pub returns-clause-bounded : goal.returns-clause-bounded
+returns-clause-bounded g c = one_more (weight_of (log_of c.make_room.new.book)) (weight (by_command c.args.command)) (weight_of (log_of c.command.new.self)) c.in_ok-make_room.ensures.spare
+    (weigh_one (log_of c.make_room.new.book) (log_of c.command.new.self) (command_entry 0 c.args.command c.in_ok-reply.reply) c.in_ok-reply.ensures.step.answered.page.0.adds.entry)
 
 pub returns-clause-kept : goal.returns-clause-kept
 returns-clause-kept g c = c.in_ok-reply.ensures.step.answered.page.1

@@ -1,11 +1,10 @@
-use Rattle.std.proofs.Common.{rules, ◌≡◌, ◌≢◌, ◌<◌, ◌+◌, ◌-◌, ◌*◌, ◌/◌, ◌^◌, ℕ, List, length, true, false, refl, inl, [], ◌∷◌, Result, Ok, Err}
+use Rattle.std.proofs.Common.{rules, ◌≡◌, ◌≢◌, ◌+◌, ◌-◌, ◌*◌, ◌/◌, ◌^◌, ℕ, List, length, true, false, refl, inl, [], ◌∷◌, Result, Ok, Err}
 use Rattle.std.specs.Prelude.{IfOk, OnOk}
 use Rattle.ic_jobs.specs.declared.command.Command.{Command}
-use Rattle.ic_book.specs.declared.limits.TheConstants.{MAX_ENTRIES}
 use Rattle.ic_serving.specs.declared.fault.ServeFault.{ServeFault}
 use Rattle.ic_disk.specs.declared.disk.Disk.{Ghosts}
 use Rattle.ic_book.specs.declared.book.Book.{Book}
-use Rattle.ic_book.specs.Book.{is_broken, number_of, log_of, table_of, disk_of}
+use Rattle.ic_book.specs.Book.{is_broken, number_of, table_of, disk_of}
 use Rattle.ic_text.specs.declared.fault.TextFault.{TextFault}
 use Rattle.ic_lines.specs.Answers.{answer, after_line, events}
 use Rattle.ic_serving.specs.Booked.{last_kept, IsAllKept}
@@ -31,7 +30,7 @@ use Rattle.ic_serving.proofs.answering.answer_read.Goals as goal
 -- a command is answered, by what its answer says
 command_answered : {D V : Type 0} {ghosts : Ghosts D} (c : Command) (old new : Book D ghosts) (r : Result V ServeFault) (items : V → List ℕ)
     → IfOk r (λ v. items v ≡ answer (table_of old) (Ok (Asks c))) → OnOk r (table_of new ≡ after_line (table_of old) (Ok (Asks c))) → OnOk r (IsAllKept new)
-    → OnOk r (is_broken new ≡ false) → OnOk r (length (log_of old) < MAX_ENTRIES → number_of old ≢ 2 ^ 64 - 1)
+    → OnOk r (is_broken new ≡ false) → OnOk r (number_of old ≢ 2 ^ 64 - 1)
     → OnOk r (HasRoom (by_command c ∷ []) old → GoesOn (by_command c ∷ []) old new) → IfOk r (λ v. IsReplied c (items v) old new)
     → IfOk r (λ v. IsAnsweredAs (Ok (Asks c)) (items v) old new)
 command_answered c old new (Ok v) items said table kept whole fresh page done =

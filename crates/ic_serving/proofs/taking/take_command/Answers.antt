@@ -1,9 +1,10 @@
-use Rattle.std.proofs.Common.{◌≡◌, ◌-◌, ◌^◌, refl, ap, ◌∙◌, [], ◌∷◌, arith}
+use Rattle.std.proofs.Common.{◌≡◌, refl, ap, ◌∙◌, [], ◌∷◌, arith}
 use Rattle.ic_jobs.specs.declared.event.Event.TheVariants.{Command as by_command}
-use Rattle.ic_slots.specs.declared.keeper.Keeper.{Keeper}
-use Rattle.ic_slots.specs.Keeper as keeper_parts
-use Rattle.ic_book.specs.Book.{is_broken, number_of, table_of, start_of, log_of, kept_of, IsUnchanged}
+use Rattle.ic_book.specs.Book.{is_broken, table_of, start_of, log_of, kept_of, IsUnchanged}
+use Rattle.ic_book.specs.Entries.{command_entry}
+use Rattle.ic_book.specs.Weight.{weight, weight_of}
 use Rattle.ic_book.specs.lemmas.Chains.{by_refusal}
+use Rattle.ic_book.specs.lemmas.Weights.{weigh_one}
 use Rattle.ic_lines.specs.Lines.{ended}
 use Rattle.ic_serving.specs.Booked.{last_kept}
 use Rattle.ic_serving.specs.Moments.{IsKeptOrNow}
@@ -11,7 +12,7 @@ use Rattle.ic_serving.specs.Parts.{IsKeptWithin}
 use Rattle.ic_serving.specs.lemmas.Leaving.{leaves_more}
 use Rattle.ic_serving.specs.lemmas.Unkept.{same_unkept}
 use Rattle.ic_serving.proofs.LineLemmas.{begun_none}
-use Rattle.ic_serving.proofs.PageLemmas.{command_goes, one_room, same_then, within_none}
+use Rattle.ic_serving.proofs.PageLemmas.{command_goes, one_more, one_room, same_then, within_none}
 use Rattle.ic_serving.proofs.RefusalLemmas.{err_broken, not_true}
 use Rattle.ic_serving.proofs.RunLemmas.{kept_same}
 use Rattle.ic_serving.proofs.StopLemmas.{kept_or_now, leaves_command, leaves_still}
@@ -136,8 +137,10 @@ pub returns-clause-unbroken : goal.returns-clause-unbroken
 returns-clause-unbroken g c = not_true (is_broken c.args.book.now) (λ is. (let bad = c.in_ok-reply.ensures.broken.1 (c.in_ok-make_room.ensures.still ∙ is) in cc))
 
 pub returns-clause-fresh : goal.returns-clause-fresh
-returns-clause-fresh g c = λ room worn.
-    let same : IsUnchanged c.args.book.now c.make_room.new.book = c.make_room.ensures.room room in
-    let number : number_of c.make_room.new.book ≡ 2 ^ 64 - 1 =
-    ap (λ (k : Keeper g.row.D.Denot g.D.Disk). keeper_parts.number_of k) same.same_keeper ∙ worn in
-    c.in_ok-reply.ensures.fresh number
+returns-clause-fresh g c = λ worn. c.in_ok-reply.ensures.fresh (c.in_ok-make_room.ensures.worn worn)
+
+pub returns-clause-bounded : goal.returns-clause-bounded
+returns-clause-bounded g c =
+    let goes = taken_goes c.args.command c.in_ok-reply.reply c.make_room.new.book c.take.new.self c.in_ok-reply.ensures.step.taken in
+    one_more (weight_of (log_of c.make_room.new.book)) (weight (by_command c.args.command)) (weight_of (log_of c.take.new.self)) c.in_ok-make_room.ensures.spare
+    (weigh_one (log_of c.make_room.new.book) (log_of c.take.new.self) (command_entry 0 c.args.command c.in_ok-reply.reply) goes.adds.entry)

@@ -3,8 +3,9 @@ use Rattle.ic_commands.specs.declared.line.Line.TheVariants.{Run}
 use Rattle.ic_lines.specs.Answers.{Reading, events}
 use Rattle.ic_lines.specs.Turns.{turns}
 use Rattle.ic_book.specs.Book.{disk_of, log_of, table_of}
+use Rattle.ic_book.specs.Weight.{weigh, weight_of}
 use Rattle.ic_serving.specs.Grown.{CallsFew}
-use Rattle.ic_serving_laws.proofs.CallLemmas.{few_of_run, has_room}
+use Rattle.ic_serving_laws.proofs.CallLemmas.{few_of_run, has_room, turns_weigh}
 use Rattle.ic_serving_laws.proofs.keeps.a_run_makes_few_calls.Goals as goal
 
 pub returns : goal.returns
@@ -14,4 +15,4 @@ returns g c = λ line k every some reads is room.
     let calls : CallsFew (turns k 0 t) every c.args.before.now c.args.after.now =
     subst (λ (r : Reading). CallsFew (events t r) every c.args.before.now c.args.after.now) (c.one_line_reading.ensures.answer line is.reading (Ok (Run k)) is.read reads) is.calls in
     few_of_run (length (turns k 0 t)) k every (g.D.Disk.clock (disk_of c.args.before.now)) (g.D.Disk.clock (disk_of c.args.after.now)) some few
-    (calls (has_room (length (log_of c.args.before.now)) (length (turns k 0 t)) k few room))
+    (calls (has_room (weight_of (log_of c.args.before.now)) (length (turns k 0 t)) k (weigh (turns k 0 t)) (turns_weigh k 0 t) few room))

@@ -27,11 +27,11 @@ returns-in_err-answer-clause-step g c =
     command_refused c.args.who c.args.command c.args.self.now _ c.from_residual-in_err-answer.result e.0 e.1
     (λ device. let never : Memory ≡ Device = sym e.2 ∙ device in cc)
     (stays_on c.args.self.now _ refl c.in_err-answer.ensures.same_log c.in_err-answer.ensures.same_table refl
-    (still g.met.D.Disk.left_is_image c.args.self.now.log.items c.args.self.now _ refl (either_of c.args.self.now)) (λ is. is))
+    (still g.met.D.Disk.left_is_image c.args.self.now.log.entries.items c.args.self.now _ refl (either_of c.args.self.now)) (λ is. is))
 
 pub returns-then-leaves_table-clause-crash : goal.returns-then-leaves_table-clause-crash
-returns-then-leaves_table-clause-crash g c = still g.met.D.Disk.left_is_image c.enter_command.new.log.items c.args.self.now _ refl
-    (still_added c.args.self.now c.args.who c.args.command c.in_ok-answer.answer c.enter_command.new.log.items c.enter_command.new.table c.in_ok-check_command.ensures.ok c.in_ok-answer.ensures.added)
+returns-then-leaves_table-clause-crash g c = still g.met.D.Disk.left_is_image c.enter_command.new.log.entries.items c.args.self.now _ refl
+    (still_added c.args.self.now c.args.who c.args.command c.in_ok-answer.answer c.enter_command.new.log.entries.items c.enter_command.new.table c.in_ok-check_command.ensures.ok c.in_ok-answer.ensures.added)
 
 pub returns-then-leaves_table-clause-step : goal.returns-then-leaves_table-clause-step
 returns-then-leaves_table-clause-step g c =
@@ -41,26 +41,26 @@ returns-then-leaves_table-clause-step g c =
 pub invariant_of-self-then-leaves_table : goal.invariant_of-self-then-leaves_table
 invariant_of-self-then-leaves_table g c =
     let book = c.args.self.now in
-    let log = c.enter_command.new.log.items in
+    let log = c.enter_command.new.log.entries.items in
     let table = c.enter_command.new.table in
     let stays = told_stays book.table table c.args.command c.in_ok-answer.answer c.in_ok-answer.ensures.added.event (sym c.leaves_table.ensures ∙ c.if-leaves_table.true) in
-    let grown : length log ≡ length book.log.items + 1 = one_longer c.args.self.now c.args.who c.args.command c.in_ok-answer.answer c.enter_command.new.log.items c.enter_command.new.table c.in_ok-check_command.ensures.ok c.in_ok-answer.ensures.added in
-    let all : book.kept ≡ length book.log.items = omega (arith, grown, c.if-kept_before.true, c.len.ensures) in
+    let grown : length log ≡ length book.log.entries.items + 1 = one_longer c.args.self.now c.args.who c.args.command c.in_ok-answer.answer c.enter_command.new.log.entries.items c.enter_command.new.table c.in_ok-check_command.ensures.ok c.in_ok-answer.ensures.added in
+    let all : book.kept ≡ length book.log.entries.items = omega (arith, grown, c.if-kept_before.true, c.len.ensures) in
     let count : c.len-self.result ≡ length log = omega (arith, c.len-self.ensures) in
     record {
-      history = idle_history c.args.self.now c.args.who c.args.command c.in_ok-answer.answer c.enter_command.new.log.items c.enter_command.new.table c.in_ok-check_command.ensures.ok c.in_ok-answer.ensures.added c.len-self.result count stays all;
-      on_disk = idle_on_disk c.args.self.now c.args.who c.args.command c.in_ok-answer.answer c.enter_command.new.log.items c.enter_command.new.table c.in_ok-check_command.ensures.ok c.in_ok-answer.ensures.added c.len-self.result count stays all;
+      history = idle_history c.args.self.now c.args.who c.args.command c.in_ok-answer.answer c.enter_command.new.log.entries.items c.enter_command.new.table c.in_ok-check_command.ensures.ok c.in_ok-answer.ensures.added c.len-self.result count stays all;
+      on_disk = idle_on_disk c.args.self.now c.args.who c.args.command c.in_ok-answer.answer c.enter_command.new.log.entries.items c.enter_command.new.table c.in_ok-check_command.ensures.ok c.in_ok-answer.ensures.added c.len-self.result count stays all;
       newest = book.newest;
     }
 
 pub invariant_of-self-in-Break-branch-3 : goal.invariant_of-self-in-Break-branch-3
 invariant_of-self-in-Break-branch-3 g c =
     let keeper = c.keep_table.new.keeper in
-    let stands = stands_added c.args.self.now c.args.who c.args.command c.in_ok-answer.answer c.enter_command.new.log.items c.enter_command.new.table c.in_ok-check_command.ensures.ok c.in_ok-answer.ensures.added in
+    let stands = stands_added c.args.self.now c.args.who c.args.command c.in_ok-answer.answer c.enter_command.new.log.entries.items c.enter_command.new.table c.in_ok-check_command.ensures.ok c.in_ok-answer.ensures.added in
     let broke = c.in_err-keep_table.ensures.breaks in
     record {
       history = stands.left keeper.frames.broken;
-      on_disk = failed_on_disk c.args.self.now c.enter_command.new.log.items c.enter_command.new.table stands keeper c.keep_table.ensures.keeps c.in_ok-check_command.ensures.ok.0 broke
+      on_disk = failed_on_disk c.args.self.now c.enter_command.new.log.entries.items c.enter_command.new.table stands keeper c.keep_table.ensures.keeps c.in_ok-check_command.ensures.ok.0 broke
           c.keep_table.ensures.either_if_made;
       newest = λ _ whole. let never : true ≡ false = sym broke ∙ whole in cc;
     }
@@ -68,25 +68,25 @@ invariant_of-self-in-Break-branch-3 g c =
 pub invariant_of-self-2 : goal.invariant_of-self-2
 invariant_of-self-2 g c =
     let keeper = c.keep_table.new.keeper in
-    let stands = stands_added c.args.self.now c.args.who c.args.command c.in_ok-answer.answer c.enter_command.new.log.items c.enter_command.new.table c.in_ok-check_command.ensures.ok c.in_ok-answer.ensures.added in
-    let count : c.len-self-2.result ≡ length c.enter_command.new.log.items = omega (arith, c.len-self-2.ensures) in
+    let stands = stands_added c.args.self.now c.args.who c.args.command c.in_ok-answer.answer c.enter_command.new.log.entries.items c.enter_command.new.table c.in_ok-check_command.ensures.ok c.in_ok-answer.ensures.added in
+    let count : c.len-self-2.result ≡ length c.enter_command.new.log.entries.items = omega (arith, c.len-self-2.ensures) in
     record {
       history = stands.kept keeper.frames.broken c.len-self-2.result count c.keep_table.ensures.sound;
-      on_disk = kept_on_disk c.args.self.now c.enter_command.new.log.items c.enter_command.new.table stands keeper c.keep_table.ensures.keeps c.len-self-2.result count
+      on_disk = kept_on_disk c.args.self.now c.enter_command.new.log.entries.items c.enter_command.new.table stands keeper c.keep_table.ensures.keeps c.len-self-2.result count
           c.in_ok-keep_table.ensures.held c.in_ok-keep_table.ensures.holds;
       newest = λ keeps _. c.in_ok-keep_table.ensures.newest (sym c.keep_table.ensures.keeps ∙ keeps);
     }
 
 pub returns-in_err-keep_table-clause-crash : goal.returns-in_err-keep_table-clause-crash
 returns-in_err-keep_table-clause-crash g c =
-    let stands = stands_added c.args.self.now c.args.who c.args.command c.in_ok-answer.answer c.enter_command.new.log.items c.enter_command.new.table c.in_ok-check_command.ensures.ok c.in_ok-answer.ensures.added in
-    written c.enter_command.new.log.items c.args.self.now _ c.enter_command.new.table stands c.in_ok-check_command.ensures.ok.0 g.met.D.Disk.image_is_left
+    let stands = stands_added c.args.self.now c.args.who c.args.command c.in_ok-answer.answer c.enter_command.new.log.entries.items c.enter_command.new.table c.in_ok-check_command.ensures.ok c.in_ok-answer.ensures.added in
+    written c.enter_command.new.log.entries.items c.args.self.now _ c.enter_command.new.table stands c.in_ok-check_command.ensures.ok.0 g.met.D.Disk.image_is_left
     c.keep_table.ensures.keeps c.keep_table.ensures.any_moment
 
 pub returns-clause-crash : goal.returns-clause-crash
 returns-clause-crash g c =
-    let stands = stands_added c.args.self.now c.args.who c.args.command c.in_ok-answer.answer c.enter_command.new.log.items c.enter_command.new.table c.in_ok-check_command.ensures.ok c.in_ok-answer.ensures.added in
-    written c.enter_command.new.log.items c.args.self.now _ c.enter_command.new.table stands c.in_ok-check_command.ensures.ok.0 g.met.D.Disk.image_is_left
+    let stands = stands_added c.args.self.now c.args.who c.args.command c.in_ok-answer.answer c.enter_command.new.log.entries.items c.enter_command.new.table c.in_ok-check_command.ensures.ok c.in_ok-answer.ensures.added in
+    written c.enter_command.new.log.entries.items c.args.self.now _ c.enter_command.new.table stands c.in_ok-check_command.ensures.ok.0 g.met.D.Disk.image_is_left
     c.keep_table.ensures.keeps c.keep_table.ensures.any_moment
 
 pub returns-in_err-check_command-clause-step : goal.returns-in_err-check_command-clause-step

@@ -11,16 +11,16 @@ returns-in_err-check_room-clause-crash g c = unchanged g.met.D.Disk.left_is_imag
 
 pub invariant_of-self : goal.invariant_of-self
 invariant_of-self g c =
-    let comes = round_comes c.args.self.now c.args.flight.now.name Halted c.enter_halted.result c.enter_halted.new.log.items c.enter_halted.new.table c.in_ok-check_room.ensures.ok c.enter_halted.ensures in
+    let comes = round_comes c.args.self.now c.args.flight.now.name Halted c.enter_halted.result c.enter_halted.new.log.entries.items c.enter_halted.new.table c.in_ok-check_room.ensures.ok c.enter_halted.ensures in
     record { history = comes.history; on_disk = comes.on_disk; newest = c.args.self.now.newest }
 
 pub returns-in_err-enter_halted-clause-crash : goal.returns-in_err-enter_halted-clause-crash
-returns-in_err-enter_halted-clause-crash g c = still g.met.D.Disk.left_is_image c.enter_halted.new.log.items c.args.self.now _ refl
-    (round_comes c.args.self.now c.args.flight.now.name Halted c.enter_halted.result c.enter_halted.new.log.items c.enter_halted.new.table c.in_ok-check_room.ensures.ok c.enter_halted.ensures).crash
+returns-in_err-enter_halted-clause-crash g c = still g.met.D.Disk.left_is_image c.enter_halted.new.log.entries.items c.args.self.now _ refl
+    (round_comes c.args.self.now c.args.flight.now.name Halted c.enter_halted.result c.enter_halted.new.log.entries.items c.enter_halted.new.table c.in_ok-check_room.ensures.ok c.enter_halted.ensures).crash
 
 pub returns-clause-crash : goal.returns-clause-crash
-returns-clause-crash g c = still g.met.D.Disk.left_is_image c.enter_halted.new.log.items c.args.self.now _ refl
-    (round_comes c.args.self.now c.args.flight.now.name Halted c.enter_halted.result c.enter_halted.new.log.items c.enter_halted.new.table c.in_ok-check_room.ensures.ok c.enter_halted.ensures).crash
+returns-clause-crash g c = still g.met.D.Disk.left_is_image c.enter_halted.new.log.entries.items c.args.self.now _ refl
+    (round_comes c.args.self.now c.args.flight.now.name Halted c.enter_halted.result c.enter_halted.new.log.entries.items c.enter_halted.new.table c.in_ok-check_room.ensures.ok c.enter_halted.ensures).crash
 
 pub returns-in_err-check_room-clause-step : goal.returns-in_err-check_room-clause-step
 returns-in_err-check_room-clause-step g c =

@@ -11,16 +11,16 @@ returns-in_err-check_room-clause-crash g c = unchanged g.met.D.Disk.left_is_imag
 
 pub invariant_of-self : goal.invariant_of-self
 invariant_of-self g c =
-    let comes = round_comes c.args.self.now c.args.flight.now.name Halted c.halt_entered.result c.halt_entered.new.log.items c.halt_entered.new.table c.in_ok-check_room.ensures.ok c.halt_entered.ensures.enters in
+    let comes = round_comes c.args.self.now c.args.flight.now.name Halted c.halt_entered.result c.halt_entered.new.log.entries.items c.halt_entered.new.table c.in_ok-check_room.ensures.ok c.halt_entered.ensures.enters in
     record { history = comes.history; on_disk = comes.on_disk; newest = c.args.self.now.newest }
 
 pub returns-in_err-halt_entered-clause-crash : goal.returns-in_err-halt_entered-clause-crash
-returns-in_err-halt_entered-clause-crash g c = still g.met.D.Disk.left_is_image c.halt_entered.new.log.items c.args.self.now _ refl
-    (round_comes c.args.self.now c.args.flight.now.name Halted c.halt_entered.result c.halt_entered.new.log.items c.halt_entered.new.table c.in_ok-check_room.ensures.ok c.halt_entered.ensures.enters).crash
+returns-in_err-halt_entered-clause-crash g c = still g.met.D.Disk.left_is_image c.halt_entered.new.log.entries.items c.args.self.now _ refl
+    (round_comes c.args.self.now c.args.flight.now.name Halted c.halt_entered.result c.halt_entered.new.log.entries.items c.halt_entered.new.table c.in_ok-check_room.ensures.ok c.halt_entered.ensures.enters).crash
 
 pub returns-clause-crash : goal.returns-clause-crash
-returns-clause-crash g c = still g.met.D.Disk.left_is_image c.halt_entered.new.log.items c.args.self.now _ refl
-    (round_comes c.args.self.now c.args.flight.now.name Halted c.halt_entered.result c.halt_entered.new.log.items c.halt_entered.new.table c.in_ok-check_room.ensures.ok c.halt_entered.ensures.enters).crash
+returns-clause-crash g c = still g.met.D.Disk.left_is_image c.halt_entered.new.log.entries.items c.args.self.now _ refl
+    (round_comes c.args.self.now c.args.flight.now.name Halted c.halt_entered.result c.halt_entered.new.log.entries.items c.halt_entered.new.table c.in_ok-check_room.ensures.ok c.halt_entered.ensures.enters).crash
 
 pub returns-in_err-check_room-clause-step : goal.returns-in_err-check_room-clause-step
 returns-in_err-check_room-clause-step g c =

@@ -23,7 +23,7 @@ invariant_of-self g c =
     let broke = c.in_err-keep_table.ensures.breaks in
     record {
       history = (stands_here book).left keeper.frames.broken;
-      on_disk = failed_on_disk book book.log.items book.table (stands_here book) keeper c.keep_table.ensures.keeps c.in_ok-check_keepable.ensures.ok broke c.keep_table.ensures.either_if_made;
+      on_disk = failed_on_disk book book.log.entries.items book.table (stands_here book) keeper c.keep_table.ensures.keeps c.in_ok-check_keepable.ensures.ok broke c.keep_table.ensures.either_if_made;
       newest = λ _ whole. let never : true ≡ false = sym broke ∙ whole in cc;
     }
 
@@ -31,21 +31,21 @@ pub invariant_of-self-2 : goal.invariant_of-self-2
 invariant_of-self-2 g c =
     let book = c.args.self.now in
     let keeper = c.keep_table.new.keeper in
-    let count : c.len-self.result ≡ length book.log.items = omega (arith, c.len-self.ensures) in
+    let count : c.len-self.result ≡ length book.log.entries.items = omega (arith, c.len-self.ensures) in
     record {
       history = (stands_here book).kept keeper.frames.broken c.len-self.result count c.keep_table.ensures.sound;
-      on_disk = kept_on_disk book book.log.items book.table (stands_here book) keeper c.keep_table.ensures.keeps c.len-self.result count c.in_ok-keep_table.ensures.held c.in_ok-keep_table.ensures.holds;
+      on_disk = kept_on_disk book book.log.entries.items book.table (stands_here book) keeper c.keep_table.ensures.keeps c.len-self.result count c.in_ok-keep_table.ensures.held c.in_ok-keep_table.ensures.holds;
       newest = λ keeps _. c.in_ok-keep_table.ensures.newest (sym c.keep_table.ensures.keeps ∙ keeps);
     }
 
 pub returns-in_err-keep_table-clause-crash : goal.returns-in_err-keep_table-clause-crash
 returns-in_err-keep_table-clause-crash g c =
-    written c.args.self.now.log.items c.args.self.now _ c.args.self.now.table (stands_here c.args.self.now) c.in_ok-check_keepable.ensures.ok g.met.D.Disk.image_is_left
+    written c.args.self.now.log.entries.items c.args.self.now _ c.args.self.now.table (stands_here c.args.self.now) c.in_ok-check_keepable.ensures.ok g.met.D.Disk.image_is_left
     c.keep_table.ensures.keeps c.keep_table.ensures.any_moment
 
 pub returns-clause-crash : goal.returns-clause-crash
 returns-clause-crash g c =
-    written c.args.self.now.log.items c.args.self.now _ c.args.self.now.table (stands_here c.args.self.now) c.in_ok-check_keepable.ensures.ok g.met.D.Disk.image_is_left
+    written c.args.self.now.log.entries.items c.args.self.now _ c.args.self.now.table (stands_here c.args.self.now) c.in_ok-check_keepable.ensures.ok g.met.D.Disk.image_is_left
     c.keep_table.ensures.keeps c.keep_table.ensures.any_moment
 
 pub returns-in_err-check_keepable-clause-step : goal.returns-in_err-check_keepable-clause-step
@@ -62,5 +62,5 @@ returns-in_err-keep_table-clause-step g c =
 pub returns-clause-step : goal.returns-clause-step
 returns-clause-step g c =
     let book = c.args.self.now in
-    let count : c.len-self.result ≡ length book.log.items = omega (arith, c.len-self.ensures) in
+    let count : c.len-self.result ≡ length book.log.entries.items = omega (arith, c.len-self.ensures) in
     keeps_page book _ refl refl refl count (returns-clause-crash g c) c.in_ok-check_keepable.ensures.ok c.in_ok-keep_table.ensures.ready

@@ -1,4 +1,4 @@
-use Rattle.std.proofs.Common.{◌≡◌, [], refl, sym, rules, ◌∙◌}
+use Rattle.std.proofs.Common.{refl, sym, ◌∙◌}
 use Rattle.std.proofs.lemmas.Result.{err_from_is_err_and}
 use Rattle.ic_book.proofs.BookLemmas.{begun_on_disk, unchanged}
 use Rattle.ic_book.proofs.StepLemmas.{idles, keep_refused, turns_page}
@@ -19,7 +19,7 @@ returns-in_err-start-clause-step g c =
 
 pub invariant_of-self-clause-on_disk : goal.invariant_of-self-clause-on_disk
 invariant_of-self-clause-on_disk g c =
-    begun_on_disk c.keep.new.self c.in_ok-start.start c.clear.new.self.items c.in_ok-keep.ensures.all.ready c.in_ok-keep.ensures.kept
+    begun_on_disk c.keep.new.self c.in_ok-start.start c.clear.new.self.entries.items c.in_ok-keep.ensures.all.ready c.in_ok-keep.ensures.kept
     (c.in_ok-start.ensures ∙ sym c.keep.ensures.all.table)
 
 pub returns-in_err-keep-clause-step : goal.returns-in_err-keep-clause-step
@@ -34,5 +34,4 @@ returns-clause-crash g c =
 
 pub returns-clause-step : goal.returns-clause-step
 returns-clause-step g c =
-    let empty : c.clear.new.self.items ≡ [] = search rules in
-    turns_page c.args.self.now _ c.in_ok-start.ensures empty c.in_ok-keep.ensures.all.table refl (returns-clause-crash g c) c.in_ok-check_keepable.ensures.ok c.in_ok-keep.ensures.all.ready
+    turns_page c.args.self.now _ c.in_ok-start.ensures c.clear.ensures c.in_ok-keep.ensures.all.table refl (returns-clause-crash g c) c.in_ok-check_keepable.ensures.ok c.in_ok-keep.ensures.all.ready

@@ -8,5 +8,5 @@ invariant_of-result-clause-on_disk g c keeps_new =
     let found = c.in-Ok.keeper.frames.disk in
     let crash = c.in-Ok.ensures.crash in
     let keeps = sym crash.keeps ∙ keeps_new in
-    found_now (disk.content c.args.disk) (disk.content found) (disk.image found) c.in-Ok-copy.start c.new.result.items c.in-Ok.keeper.frames.broken c.in-Ok.table
+    found_now (disk.content c.args.disk) (disk.content found) (disk.image found) c.in-Ok-copy.start c.new.result.entries.items c.in-Ok.keeper.frames.broken c.in-Ok.table
     c.in-Ok-copy.ensures (crash.same keeps) (c.in-Ok.ensures.opened keeps) (crash.synced keeps (λ failed. cc))
