@@ -8,6 +8,7 @@ import time
 from checked import checked
 from known import ADD, LOOP, STILL, TWO, WAVES, WIDE, Job, fetched
 from program import PATIENCE, PROGRAM, Server, Trial, as_lines, heeds_signals, run, said_of
+from shim import noted, recording
 
 SYSTEMS = (TWO, STILL, LOOP, WIDE, WAVES)
 
@@ -202,6 +203,15 @@ class Batch(Trial):
             started.kill()
         self.equals(said_of(command), f"whether each of three jobs has rounds, as {found}", True, len(found) == 3 and found[0] >= 5)
         self.equals(said_of(command), f"whether they were made in turn, as {found}", True, found[2] <= found[1] <= found[0] <= found[2] + 1)
+
+    def test_all_submits_are_kept_by_one_keep(self):
+        log, syncs = self.room / "calls", []
+        for count in (1, 32):
+            self.path = self.room / f"{count}.disk"
+            ran = run(*self.words([submitted(f"j{it}", STILL) for it in range(count)]), **recording(log))
+            self.equals(ran.command, "the status", 0, ran.status)
+            syncs.append(sum(it.kind == "S" for it in noted(log)))
+        self.equals("batch", "the syncs of 1 job and of 32", *syncs)
 
     def test_stops_at_drawn_moments_change_nothing(self):
         """Stopped again and again and called anew, it prints what one call prints, and a stopped one a front of that at most."""

@@ -1,5 +1,5 @@
 -- How many calls to the disk are made.
-use Rattle.std.proofs.Common.{◌≡◌, ◌≢◌, ◌⊎◌, inl, inr, ℕ, zero, suc, ◌+◌, ◌-◌, ◌*◌, ◌<◌, ◌≤◌, ◌/◌, ◌%◌, ◌^◌, List, [], ◌∷◌, Bool, true, false, ◌&&◌, Some, length, refl, sym, ap, ap₂, subst, ◌∙◌, arith, true≢false}
+use Rattle.std.proofs.Common.{◌≡◌, ◌≢◌, ◌⊎◌, inl, inr, ℕ, zero, suc, ◌+◌, ◌-◌, ◌*◌, ◌<◌, ◌≤◌, ◌/◌, ◌%◌, ◌^◌, min, List, [], ◌∷◌, Bool, true, false, ◌&&◌, Some, length, refl, sym, ap, ap₂, subst, ◌∙◌, arith, true≢false}
 use Rattle.std.specs.Prelude.{IsSome, Option, nat_lt, if◌then◌else◌}
 use Rattle.std.specs.List.{AllByRecursion}
 use Rattle.std.proofs.lemmas.Nat.{div-add-mod', div_below, le-div}
@@ -22,7 +22,7 @@ use Rattle.ic_book.specs.Book.{disk_of, keeper_of, log_of, table_of}
 use Rattle.ic_serving.specs.Grown.{GoesOn, HasRoom, HasSpare, IsSamePage}
 use Rattle.ic_batch.specs.declared.jobs.NewJob.{NewJob}
 use Rattle.ic_batch.specs.Calls.{CallsFew, come_to, events_in, events_of}
-use Rattle.ic_batch.specs.inner.Staying.{HaveCome}
+use Rattle.ic_batch.specs.inner.Staying.{AreKept, HaveCome}
 use Rattle.ic_batch.specs.Way.{after, after_event, all_of, goes_on, gone_on, AreWays, IsOnWay}
 use Rattle.ic_batch.proofs.JobLemmas.{change, change_is, one_named, round_changes}
 use Rattle.ic_batch.proofs.WayLemmas.{runs, stands_on}
@@ -224,18 +224,21 @@ to_none [] = refl
 to_none (x ∷ xs) = refl
 
 -- what few calls are, by numbers of submits and of events
-pub calls_so : (log every submits events before now made old new : ℕ) → (log + (SYSTEM_WEIGHT * (now - before) + made) < PAGE_WEIGHT → new ≤ old + 6 * ((now - before) + made / every + 1))
-    → now ≡ before + submits → made ≡ events → log + (512 * submits + events) < 65536 → new ≤ old + 6 * (submits + events / every + 1)
+pub calls_so : (log every submits events before now made old new : ℕ) → (log + (SYSTEM_WEIGHT * (now - before) + made) < PAGE_WEIGHT → new ≤ old + 6 * (min (now - before) 1 + made / every + 1))
+    → now ≡ before + submits → made ≡ events → log + (512 * submits + events) < 65536 → new ≤ old + 6 * (min submits 1 + events / every + 1)
 calls_so log every submits events before now made old new few longer is room =
     let came : now - before ≡ submits = omega (arith, longer) in
     let both : SYSTEM_WEIGHT * (now - before) + made ≡ 512 * submits + events = ap₂ (λ (x y : ℕ). 512 * x + y) came is in
-    subst (λ (k : ℕ). new ≤ old + 6 * (k + 1)) (ap₂ (λ (x y : ℕ). x + y / every) came is)
+    subst (λ (k : ℕ). new ≤ old + 6 * (k + 1)) (ap₂ (λ (x y : ℕ). min x 1 + y / every) came is)
     (few (subst (λ (k : ℕ). log + k < PAGE_WEIGHT) (sym both) room))
+
+pub one_more_unkept : (o m n unkept now : ℕ) → o ≤ m → n ≡ m + 1 → unkept ≤ m - o → now ≤ unkept + 1 → now ≤ n - o
+one_more_unkept o m n unkept now more longer few one = omega (arith, more, longer, few, one)
 
 -- ---- of rounds over a book
 
 module _ {D : Type 0} {ghosts : Ghosts D} where
-  clock_same : (old new : Book D ghosts) → keeper_of new ≡ keeper_of old → ghosts.clock (disk_of new) ≡ ghosts.clock (disk_of old)
+  pub clock_same : (old new : Book D ghosts) → keeper_of new ≡ keeper_of old → ghosts.clock (disk_of new) ≡ ghosts.clock (disk_of old)
   clock_same old new same = ap (λ (k : Keeper D ghosts). ghosts.clock (keeper_parts.disk_of k)) same
 
   clock_stays : (old new : Book D ghosts) → new ≡ old → ghosts.clock (disk_of new) ≡ ghosts.clock (disk_of old)
@@ -317,10 +320,7 @@ module _ {D : Type 0} {ghosts : Ghosts D} where
   RoomToCome old t = weight_of (log_of old) + SYSTEM_WEIGHT * come_to (table_of old) t < PAGE_WEIGHT
 
   pub come_none : (book : Book D ghosts) → HaveCome book book
-  come_none book = record {
-    log = sum (weight_of (log_of book)) (length (table_of book));
-    clock = at_least (ghosts.clock (disk_of book)) (6 * come_to (table_of book) (table_of book));
-  }
+  come_none book = record { log = sum (weight_of (log_of book)) (length (table_of book)); keeper = refl }
     where
       sum : (n k : ℕ) → n ≡ n + SYSTEM_WEIGHT * (k - k)
       sum n k = omega arith
@@ -328,8 +328,8 @@ module _ {D : Type 0} {ghosts : Ghosts D} where
   module _ (old mid : Book D ghosts) (first : length (table_of old) ≤ length (table_of mid)) (so_far : RoomToCome old (table_of mid) → HaveCome old mid) where
     -- one more has come
     pub come_more : (e : Event) (new : Book D ghosts) → weight e ≡ SYSTEM_WEIGHT → length (table_of new) ≡ length (table_of mid) + 1 → (HasRoom (e ∷ []) mid → GoesOn (e ∷ []) mid new)
-        → (HasSpare mid → ghosts.clock (disk_of new) ≤ ghosts.clock (disk_of mid) + 6) → RoomToCome old (table_of new) → HaveCome old new
-    come_more e new weighs longer goes six room =
+        → (HasSpare mid → keeper_of new ≡ keeper_of mid) → RoomToCome old (table_of new) → HaveCome old new
+    come_more e new weighs longer goes still room =
         let a = weight_of (log_of old) in
         let k = come_to (table_of old) (table_of mid) in
         let next : come_to (table_of old) (table_of new) ≡ k + 1 = one (length (table_of old)) (length (table_of mid)) (length (table_of new)) first longer in
@@ -339,8 +339,7 @@ module _ {D : Type 0} {ghosts : Ghosts D} where
         record {
           log = one_longer e mid new (goes spare) ∙ ap (λ (n : ℕ). weight_of (log_of mid) + n) weighs ∙ up a k (weight_of (log_of mid)) here.log
               ∙ ap (λ (n : ℕ). a + SYSTEM_WEIGHT * n) (sym next);
-          clock = subst (λ (n : ℕ). ghosts.clock (disk_of new) ≤ ghosts.clock (disk_of old) + 6 * n) (sym next)
-              (sixes k (ghosts.clock (disk_of old)) (ghosts.clock (disk_of mid)) (ghosts.clock (disk_of new)) here.clock (six (one_less (weight_of (log_of mid)) (weigh (e ∷ [])) spare)));
+          keeper = still (one_less (weight_of (log_of mid)) (weigh (e ∷ [])) spare) ∙ here.keeper;
         }
       where
         one : (o m n : ℕ) → o ≤ m → n ≡ m + 1 → n - o ≡ (m - o) + 1
@@ -358,19 +357,16 @@ module _ {D : Type 0} {ghosts : Ghosts D} where
         up : (a k b : ℕ) → b ≡ a + SYSTEM_WEIGHT * k → b + SYSTEM_WEIGHT ≡ a + SYSTEM_WEIGHT * (k + 1)
         up a k b is = omega (arith, is)
 
-        sixes : (k old mid new : ℕ) → mid ≤ old + 6 * k → new ≤ mid + 6 → new ≤ old + 6 * (k + 1)
-        sixes k old mid new few six = omega (arith, few, six)
-
     -- it failed, whether it has come or not
-    pub come_or_not : (new : Book D ghosts) → length (table_of mid) ≤ length (table_of new) → (HasSpare mid → ghosts.clock (disk_of new) ≤ ghosts.clock (disk_of mid) + 6)
-        → RoomToCome old (table_of new) → ghosts.clock (disk_of new) ≤ ghosts.clock (disk_of old) + 6 * (come_to (table_of old) (table_of new) + 1)
-    come_or_not new less six room =
+    pub come_or_not : (new : Book D ghosts) → length (table_of mid) ≤ length (table_of new) → (HasSpare mid → keeper_of new ≡ keeper_of mid)
+        → RoomToCome old (table_of new) → keeper_of new ≡ keeper_of old
+    come_or_not new less still room =
         let a = weight_of (log_of old) in
         let k = come_to (table_of old) (table_of mid) in
         let more : k ≤ come_to (table_of old) (table_of new) = no_fewer (length (table_of old)) (length (table_of mid)) (length (table_of new)) less in
-        let here = so_far (within a k (come_to (table_of old) (table_of new)) more room) in
-        let spare : HasSpare mid = subst (λ (n : ℕ). n < PAGE_WEIGHT) (sym here.log) (within a k (come_to (table_of old) (table_of new)) more room) in
-        sixes k (come_to (table_of old) (table_of new)) (ghosts.clock (disk_of old)) (ghosts.clock (disk_of mid)) (ghosts.clock (disk_of new)) more here.clock (six spare)
+        let front = within a k (come_to (table_of old) (table_of new)) more room in
+        let here = so_far front in
+        still (subst (λ (n : ℕ). n < PAGE_WEIGHT) (sym here.log) front) ∙ here.keeper
       where
         no_fewer : (o m n : ℕ) → m ≤ n → m - o ≤ n - o
         no_fewer o m n less = omega (arith, less)
@@ -378,28 +374,54 @@ module _ {D : Type 0} {ghosts : Ghosts D} where
         within : (a k n : ℕ) → k ≤ n → a + SYSTEM_WEIGHT * n < PAGE_WEIGHT → a + SYSTEM_WEIGHT * k < PAGE_WEIGHT
         within a k n less room = omega (arith, less, room)
 
-        sixes : (k n old mid new : ℕ) → k ≤ n → mid ≤ old + 6 * k → new ≤ mid + 6 → new ≤ old + 6 * (n + 1)
-        sixes k n old mid new more few six = omega (arith, more, few, six)
+  pub no_calls : (old new : Book D ghosts) → keeper_of new ≡ keeper_of old → ghosts.clock (disk_of new) ≤ ghosts.clock (disk_of old) + 6 * min (come_to (table_of old) (table_of new)) 1
+  no_calls old new same = no_more (ghosts.clock (disk_of old)) (ghosts.clock (disk_of new)) (min (come_to (table_of old) (table_of new)) 1) (clock_same old new same)
+    where
+      no_more : (a b m : ℕ) → b ≡ a → b ≤ a + 6 * m
+      no_more a b m is = omega (arith, is)
+
+  pub one_keep : (old mid new : Book D ghosts) → ghosts.clock (disk_of mid) ≡ ghosts.clock (disk_of old) → ghosts.clock (disk_of new) ≤ ghosts.clock (disk_of mid) + 6
+      → length (table_of old) < length (table_of new) → ghosts.clock (disk_of new) ≤ ghosts.clock (disk_of old) + 6 * min (come_to (table_of old) (table_of new)) 1
+  one_keep old mid new same six some =
+      sixes (ghosts.clock (disk_of old)) (ghosts.clock (disk_of mid)) (ghosts.clock (disk_of new)) (min (come_to (table_of old) (table_of new)) 1) same six
+      (one_came (length (table_of old)) (length (table_of new)) some)
+    where
+      one_came : (o n : ℕ) → o < n → min (n - o) 1 ≡ 1
+      one_came o n less = omega (arith, less)
+
+      sixes : (old mid new m : ℕ) → mid ≡ old → new ≤ mid + 6 → m ≡ 1 → new ≤ old + 6 * m
+      sixes old mid new m same six is = omega (arith, same, six, is)
+
+  -- they are kept, all by one keep, or none came
+  pub come_kept : (old mid new : Book D ghosts) → HaveCome old mid → table_of new ≡ table_of mid → IsSamePage mid new → ghosts.clock (disk_of new) ≤ ghosts.clock (disk_of mid) + 6
+      → length (table_of old) < length (table_of new) → AreKept old new
+  come_kept old mid new come table page six some = record {
+    log = ap weight_of page.log ∙ come.log ∙ ap (λ (t : List JobParts). weight_of (log_of old) + SYSTEM_WEIGHT * come_to (table_of old) t) (sym table);
+    clock = one_keep old mid new (clock_same old mid come.keeper) six some;
+  }
+
+  pub come_same : (old new : Book D ghosts) → HaveCome old new → AreKept old new
+  come_same old new come = record { log = come.log; clock = no_calls old new come.keeper }
 
   -- ---- of a batch
 
   module _ (jobs : List NewJob) (every : ℕ) (old mid : Book D ghosts) where
     -- a submit failed
-    pub few_submits : (RoomToCome old (table_of mid) → ghosts.clock (disk_of mid) ≤ ghosts.clock (disk_of old) + 6 * (come_to (table_of old) (table_of mid) + 1))
+    pub few_submits : (RoomToCome old (table_of mid) → ghosts.clock (disk_of mid) ≤ ghosts.clock (disk_of old) + 6 * min (come_to (table_of old) (table_of mid)) 1)
         → CallsFew jobs every old mid
     few_submits few room =
         let n = come_to (table_of old) (table_of mid) in
         let more = events_in (all_of jobs (table_of old)) (table_of mid) in
-        more_sixes n (more / every) (ghosts.clock (disk_of old)) (ghosts.clock (disk_of mid)) (few (within (weight_of (log_of old)) n more room))
+        more_sixes (min n 1) (more / every) (ghosts.clock (disk_of old)) (ghosts.clock (disk_of mid)) (few (within (weight_of (log_of old)) n more room))
       where
         within : (a n m : ℕ) → a + (SYSTEM_WEIGHT * n + m) < PAGE_WEIGHT → a + SYSTEM_WEIGHT * n < PAGE_WEIGHT
         within a n m room = omega (arith, room)
 
-        more_sixes : (n q old new : ℕ) → new ≤ old + 6 * (n + 1) → new ≤ old + 6 * ((n + q) + 1)
+        more_sixes : (n q old new : ℕ) → new ≤ old + 6 * n → new ≤ old + 6 * ((n + q) + 1)
         more_sixes n q old new few = omega (arith, few)
 
     -- rounds and a keep came after all submits
-    pub few_kept : table_of mid ≡ all_of jobs (table_of old) → (RoomToCome old (table_of mid) → HaveCome old mid) → (new last : Book D ghosts) → length (table_of new) ≡ length (table_of mid)
+    pub few_kept : table_of mid ≡ all_of jobs (table_of old) → (RoomToCome old (table_of mid) → AreKept old mid) → (new last : Book D ghosts) → length (table_of new) ≡ length (table_of mid)
         → (RoomFor mid (table_of new) → ghosts.clock (disk_of new) ≤ ghosts.clock (disk_of mid) + 6 * (events_in (table_of mid) (table_of new) / every))
         → table_of last ≡ table_of new → ghosts.clock (disk_of last) ≤ ghosts.clock (disk_of new) + 6 → CallsFew jobs every old last
     few_kept all come new last long rounds same six room =
@@ -415,8 +437,8 @@ module _ {D : Type 0} {ghosts : Ghosts D} where
         let here = come (within a n m spare) in
         let made = rounds (again a n m (weight_of (log_of mid)) here.log spare) in
         subst (λ (k : ℕ). ghosts.clock (disk_of last) ≤ ghosts.clock (disk_of old) + 6 * (k + 1))
-        (sym (ap₂ (λ (x y : ℕ). x + y / every) is_n is_m))
-        (sum n (m / every) (ghosts.clock (disk_of old)) (ghosts.clock (disk_of mid)) (ghosts.clock (disk_of new)) (ghosts.clock (disk_of last)) here.clock made six)
+        (sym (ap₂ (λ (x y : ℕ). min x 1 + y / every) is_n is_m))
+        (sum (min n 1) (m / every) (ghosts.clock (disk_of old)) (ghosts.clock (disk_of mid)) (ghosts.clock (disk_of new)) (ghosts.clock (disk_of last)) here.clock made six)
       where
         within : (a n m : ℕ) → a + (SYSTEM_WEIGHT * n + m) < PAGE_WEIGHT → a + SYSTEM_WEIGHT * n < PAGE_WEIGHT
         within a n m room = omega (arith, room)
@@ -427,10 +449,10 @@ module _ {D : Type 0} {ghosts : Ghosts D} where
         sum : (n q old mid new last : ℕ) → mid ≤ old + 6 * n → new ≤ mid + 6 * q → last ≤ new + 6 → last ≤ old + 6 * ((n + q) + 1)
         sum n q old mid new last first second third = omega (arith, first, second, third)
 
-    pub few_rounds : table_of mid ≡ all_of jobs (table_of old) → (RoomToCome old (table_of mid) → HaveCome old mid) → (new : Book D ghosts) → length (table_of new) ≡ length (table_of mid)
+    pub few_rounds : table_of mid ≡ all_of jobs (table_of old) → (RoomToCome old (table_of mid) → AreKept old mid) → (new : Book D ghosts) → length (table_of new) ≡ length (table_of mid)
         → (RoomFor mid (table_of new) → ghosts.clock (disk_of new) ≤ ghosts.clock (disk_of mid) + 6 * (events_in (table_of mid) (table_of new) / every)) → CallsFew jobs every old new
     few_rounds all come new long rounds = few_kept all come new new long rounds refl (at_least (ghosts.clock (disk_of new)) 6)
 
   -- nothing was done
   pub few_none : (jobs : List NewJob) (every : ℕ) (book : Book D ghosts) → CallsFew jobs every book book
-  few_none jobs every book room = at_least (ghosts.clock (disk_of book)) (6 * (come_to (table_of book) (table_of book) + events_in (all_of jobs (table_of book)) (table_of book) / every + 1))
+  few_none jobs every book room = at_least (ghosts.clock (disk_of book)) (6 * (min (come_to (table_of book) (table_of book)) 1 + events_in (all_of jobs (table_of book)) (table_of book) / every + 1))

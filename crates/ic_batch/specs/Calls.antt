@@ -1,5 +1,5 @@
 -- How many calls to the disk a batch makes (this project's choice).
-use Rattle.std.specs.Prelude.{ℕ, ◌+◌, ◌-◌, ◌*◌, ◌/◌, ◌<◌, ◌≤◌, ◌&&◌, List, [], ◌∷◌, length, if◌then◌else◌}
+use Rattle.std.specs.Prelude.{ℕ, ◌+◌, ◌-◌, ◌*◌, ◌/◌, ◌<◌, ◌≤◌, min, ◌&&◌, List, [], ◌∷◌, length, if◌then◌else◌}
 use Rattle.ic_disk.specs.declared.disk.Disk.{Ghosts}
 use Rattle.ic_jobs.specs.declared.state.State.TheVariants.{Halted}
 use Rattle.ic_jobs.specs.State.{is_running, state_eq}
@@ -28,12 +28,12 @@ abbrev pub come_to : (old t : List JobParts) → ℕ
 come_to old t = length t - length old
 
 -- Where the page has room for the submits, the rounds and the halts that were made, at most six calls to
--- the disk are made for each submit, six for each `every` rounds and halts, and six at the end.
+-- the disk are made for all submits, six for each `every` rounds and halts, and six at the end.
 abbrev pub CallsFew : {D : Type 0} {ghosts : Ghosts D} → List NewJob → (every : ℕ)
     → (old new : Book D ghosts) → Type 0
 CallsFew {D} {ghosts} jobs every old new =
     weight_of (log_of old) + (SYSTEM_WEIGHT * come_to (table_of old) (table_of new)
     + events_in (all_of jobs (table_of old)) (table_of new)) < PAGE_WEIGHT
     → ghosts.clock (disk_of new) ≤ ghosts.clock (disk_of old)
-    + 6 * (come_to (table_of old) (table_of new)
+    + 6 * (min (come_to (table_of old) (table_of new)) 1
     + events_in (all_of jobs (table_of old)) (table_of new) / every + 1)

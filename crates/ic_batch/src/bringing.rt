@@ -1,6 +1,6 @@
 //! Bringing jobs to their ends over a book.
 
-ghost use Rattle.std.specs.Prelude.{◌≡◌, ◌+◌, ◌≤◌, [], length, true, false, Err, IfErr, IfOk, OnOk, OnErr};
+ghost use Rattle.std.specs.Prelude.{◌≡◌, ◌+◌, ◌≤◌, [], length, max, true, false, Err, IfErr, IfOk, OnOk, OnErr};
 ghost use Rattle.std.specs.List.{IsDistinct};
 ghost use Rattle.std.specs.Str.{bytes_eq};
 ghost use Rattle.std.specs.Io.KnownBytes.{Appends};
@@ -36,8 +36,8 @@ use std::io::Write;
 use std::sync::Wait;
 use std::thread::Threads;
 
-/// Submits those of the jobs that the table doesn't have, makes rounds until no job goes on, keeps
-/// all, and writes for each of the jobs the line that a serving answers to its fetch.
+/// Submits those of the jobs that the table doesn't have, keeps them by one keep, makes rounds until no
+/// job goes on, keeps all, and writes for each of the jobs the line that a serving answers to its fetch.
 ///
 /// A job goes on while it runs and has made fewer rounds than `most`. Rounds are kept after each
 /// `every` of them; one of many equations is made by at most so many workers, which are joined
@@ -73,7 +73,7 @@ pub fn batch<T: Threads + Wait + Copy + Send + 'static, D: Disk, W: Write, G: Ga
     // and so few calls to the disk are made.
     ensures alone { workers ≡ 1 → (fault : ServeFault) → result ≡ Err (Serve fault)
         → ComesAlone fault }
-    ensures few_unkept { IsAllKept book.old → unkept_of book.new ≤ every }
+    ensures few_unkept { IsAllKept book.old → unkept_of book.new ≤ max every (length jobs.now) }
     ensures few_calls { CallsFew jobs.now every book.old book.new }
 {
     book.facts();
@@ -128,7 +128,7 @@ fn bring_to_ends<T: Threads + Wait + Copy + Send + 'static, D: Disk, G: Gate>(
     ensures unbroken { OnOk result (is_broken book.old ≡ false) }
     ensures whole { OnOk result (is_broken book.new ≡ false) }
     ensures alone { workers ≡ 1 → IfErr result ComesAlone }
-    ensures few_unkept { IsAllKept book.old → unkept_of book.new ≤ every }
+    ensures few_unkept { IsAllKept book.old → unkept_of book.new ≤ max every (length jobs.now) }
     ensures few_calls { CallsFew jobs.now every book.old book.new }
 {
     submit_missing(alloc, book, jobs)?;

@@ -1,6 +1,6 @@
 //! Laws of the definitions that the contracts of this crate cite.
 
-ghost use Rattle.std.specs.Prelude.{◌≡◌, ◌≢◌, ◌↔◌, ◌<◌, ◌≤◌, ◌++◌, ◌+◌, ◌-◌, ◌*◌, ◌/◌, ◌^◌, ◌⊎◌, ℕ, List, [], ◌∷◌, IfSome, Option, Result, Some, Ok, Err, false, true, drop, length, map, slice_get, take};
+ghost use Rattle.std.specs.Prelude.{◌≡◌, ◌≢◌, ◌↔◌, ◌<◌, ◌≤◌, ◌++◌, ◌+◌, ◌-◌, ◌*◌, ◌/◌, ◌^◌, ◌⊎◌, ℕ, List, [], ◌∷◌, IfSome, Option, Result, Some, Ok, Err, false, true, drop, length, map, min, slice_get, take};
 ghost use Rattle.std.specs.List.{AllByRecursion, AllZip, IsDistinct, filter_map, flat_map};
 ghost use Rattle.std.specs.Io.KnownBytes.{Appends, Keeps};
 ghost use Rattle.std.specs.Str.{bytes_eq};
@@ -252,7 +252,7 @@ pub fn a_failing_writer_ends_a_batch<D: Disk>(old: &Book<D>, new: &Book<D>)
 ///
 /// The page, whose entries weigh 65,536 in all, has to have room for all submits, of 512 each, for all
 /// rounds and halts of the batch, and for one entry more. Then the batch calls the disk at most six times
-/// for each submit, six for each `every` rounds and halts, and six at its end.
+/// for all submits, six for each `every` rounds and halts, and six at its end.
 pub fn a_batch_calls_the_disk_so<D: Disk>(old: &Book<D>, new: &Book<D>)
     ensures way { (most n : ℕ) (from : JobParts)
         → ((m : ℕ) → m < n → goes_on most (after most m from) ≡ true)
@@ -267,7 +267,7 @@ pub fn a_batch_calls_the_disk_so<D: Disk>(old: &Book<D>, new: &Book<D>)
         → events_in (all_of jobs (table_of old.now)) (table_of new.now) ≡ events
         → weight_of (log_of old.now) + (512 * submits + events) < 65536
         → D.clock (disk_of new.now) ≤ D.clock (disk_of old.now)
-        + 6 * (submits + events / every + 1) }
+        + 6 * (min submits 1 + events / every + 1) }
 {
     let _ = old;
     let _ = new;

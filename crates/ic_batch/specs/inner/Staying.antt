@@ -1,9 +1,9 @@
 -- For private functions: what a part of a batch leaves on its way.
-use Rattle.std.specs.Prelude.{◌≡◌, ◌≤◌, ◌+◌, ◌*◌, List, ◌++◌, map}
+use Rattle.std.specs.Prelude.{◌≡◌, ◌≤◌, ◌+◌, ◌*◌, min, List, ◌++◌, map}
 use Rattle.ic_disk.specs.declared.disk.Disk.{Ghosts}
 use Rattle.ic_jobs.specs.Job.{JobParts}
 use Rattle.ic_book.specs.declared.book.Book.{Book}
-use Rattle.ic_book.specs.Book.{disk_of, log_of, table_of}
+use Rattle.ic_book.specs.Book.{disk_of, keeper_of, log_of, table_of}
 use Rattle.ic_book.specs.Weight.{weight_of}
 use Rattle.ic_book.specs.declared.limits.TheConstants.{SYSTEM_WEIGHT}
 use Rattle.ic_serving.specs.Booked.{last_kept}
@@ -28,8 +28,17 @@ pub record AreBegun (jobs : List NewJob) (old t : List JobParts) : Type 0 where
   pub parted : missing old jobs ≡ front ++ rest
   pub table : t ≡ old ++ map begun_by front
 
--- the jobs that have come to the table stand in the log, and at most six calls were made for each
+-- the submits of the jobs that have come to the table stand in the log
+abbrev pub AreInLog : {D : Type 0} {ghosts : Ghosts D} → (old new : Book D ghosts) → Type 0
+AreInLog old new = weight_of (log_of new) ≡ weight_of (log_of old) + SYSTEM_WEIGHT * come_to (table_of old) (table_of new)
+
+-- and no call to the disk was made
 pub record HaveCome {D : Type 0} {ghosts : Ghosts D} (old new : Book D ghosts) : Type 0 where
-  pub log : weight_of (log_of new) ≡ weight_of (log_of old) + SYSTEM_WEIGHT * come_to (table_of old) (table_of new)
+  pub log : AreInLog old new
+  pub keeper : keeper_of new ≡ keeper_of old
+
+-- or at most six were made for all of them
+pub record AreKept {D : Type 0} {ghosts : Ghosts D} (old new : Book D ghosts) : Type 0 where
+  pub log : AreInLog old new
   pub clock : ghosts.clock (disk_of new)
-      ≤ ghosts.clock (disk_of old) + 6 * come_to (table_of old) (table_of new)
+      ≤ ghosts.clock (disk_of old) + 6 * min (come_to (table_of old) (table_of new)) 1

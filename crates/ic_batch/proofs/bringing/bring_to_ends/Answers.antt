@@ -1,4 +1,4 @@
-use Rattle.std.proofs.Common.{inl, inr, ◌∙◌, List, ap, sym, subst}
+use Rattle.std.proofs.Common.{inl, inr, ◌∙◌, List, ap, sym, subst, arith}
 use Rattle.ic_jobs.specs.Job.{JobParts}
 use Rattle.ic_book.specs.Book.{is_broken, table_of}
 use Rattle.ic_batch.specs.Faults.{ComesOverBroken, ComesWith}
@@ -110,3 +110,27 @@ pub returns-clause-few_calls : goal.returns-clause-few_calls
 returns-clause-few_calls g c = few_kept c.args.jobs.now c.args.every c.args.book.now c.submit_missing.new.book c.in_ok-submit_missing.ensures.all c.in_ok-submit_missing.ensures.come
     c.make_rounds.new.book c.keep_all.new.book (ways_long c.args.most (table_of c.submit_missing.new.book) (table_of c.make_rounds.new.book) c.make_rounds.ensures.leads.table)
     c.make_rounds.ensures.few_calls c.keep_all.ensures.table c.keep_all.ensures.calls
+
+pub returns-in_err-submit_missing-clause-few_unkept : goal.returns-in_err-submit_missing-clause-few_unkept
+returns-in_err-submit_missing-clause-few_unkept g c = λ all. let few = c.submit_missing.ensures.few_unkept all in omega (arith, few)
+
+pub returns-in_err-make_rounds-clause-few_unkept : goal.returns-in_err-make_rounds-clause-few_unkept
+returns-in_err-make_rounds-clause-few_unkept g c = λ all. let few = c.make_rounds.ensures.few_unkept (c.in_ok-submit_missing.ensures.kept all) in omega (arith, few)
+
+pub returns-in_err-keep_all-clause-few_unkept : goal.returns-in_err-keep_all-clause-few_unkept
+returns-in_err-keep_all-clause-few_unkept g c = λ all.
+    let few = c.make_rounds.ensures.few_unkept (c.in_ok-submit_missing.ensures.kept all) in
+    let fewer = c.keep_all.ensures.fewer in
+    omega (arith, few, fewer)
+
+pub returns-in_err-told-clause-few_unkept : goal.returns-in_err-told-clause-few_unkept
+returns-in_err-told-clause-few_unkept g c = λ all.
+    let few = c.make_rounds.ensures.few_unkept (c.in_ok-submit_missing.ensures.kept all) in
+    let fewer = c.keep_all.ensures.fewer in
+    omega (arith, few, fewer)
+
+pub returns-clause-few_unkept : goal.returns-clause-few_unkept
+returns-clause-few_unkept g c = λ all.
+    let few = c.make_rounds.ensures.few_unkept (c.in_ok-submit_missing.ensures.kept all) in
+    let fewer = c.keep_all.ensures.fewer in
+    omega (arith, few, fewer)

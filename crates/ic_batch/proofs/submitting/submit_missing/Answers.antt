@@ -1,162 +1,109 @@
-use Rattle.std.proofs.Common.{◌≡◌, ◌+◌, ◌∙◌, inl, inr, List, [], ◌≤◌, ap, drop, length, sym, refl, subst, arith, true≢false}
-use Rattle.std.proofs.lemmas.List.{drop_all}
-use Rattle.ic_jobs.specs.declared.command.Command.{Command}
-use Rattle.ic_jobs.specs.declared.event.Event.TheVariants.{Command as by_command}
-use Rattle.ic_jobs.specs.History.{table_after}
+use Rattle.std.proofs.Common.{◌≡◌, ◌<◌, ◌∙◌, List, inl, inr, length, sym, ap, subst, arith}
 use Rattle.ic_jobs.specs.Job.{JobParts}
-use Rattle.ic_book.specs.Book.{table_of, start_of, log_of, kept_of}
-use Rattle.ic_book.specs.Weight.{weight}
-use Rattle.ic_book.specs.lemmas.Chains.{by_nothing}
+use Rattle.ic_book.specs.Book.{table_of}
 use Rattle.ic_book.specs.lemmas.Facts.{history_of}
-use Rattle.ic_serving.specs.Booked.{last_kept}
-use Rattle.ic_serving.specs.lemmas.Leaving.{leaves_nothing}
-use Rattle.ic_serving.specs.lemmas.Reaching.{kept_all}
-use Rattle.ic_serving.specs.lemmas.Unkept.{none_unkept}
-use Rattle.ic_batch.specs.declared.jobs.NewJob.{NewJob}
-use Rattle.ic_batch.specs.Way.{IsKeptOr}
-use Rattle.ic_batch.specs.inner.Staying.{AreBegun}
+use Rattle.ic_serving.specs.Faults.{ComesWithoutRound}
 use Rattle.ic_batch.specs.Faults.{ComesOverBroken}
-use Rattle.ic_batch.proofs.CallLemmas.{come_more, come_none, come_or_not}
-use Rattle.ic_batch.proofs.ComeLemmas.{err_comes, over_broken}
-use Rattle.ic_batch.proofs.LeadLemmas.{leads_begun, leads_done, part_such}
-use Rattle.ic_batch.proofs.LoopLemmas.{split_here}
-use Rattle.ic_batch.proofs.NewLemmas.{AreSubmitted, all_begun, begun_so_far, is_new, longer_here, new_here, none_lost, none_yet, passed_here, submitted_here}
+use Rattle.ic_batch.specs.inner.Staying.{AreBegun}
+use Rattle.ic_batch.proofs.CallLemmas.{come_kept, come_same, no_calls, one_keep, clock_same}
+use Rattle.ic_batch.proofs.ComeLemmas.{err_comes, of_keep, told_broken}
+use Rattle.ic_batch.proofs.LeadLemmas.{leads_on}
 use Rattle.ic_batch.proofs.submitting.submit_missing.Goals as goal
-use Rattle.ic_batch.proofs.submitting.submit_missing.Goals.{then-is_missing+in_ok-command+in_ok-answer_command, else-is_missing}
 
-pub loop-new-init : goal.loop-new-init
-loop-new-init g c =
-    let t = table_of c.args.book.now in
-    let first = none_yet c.args.jobs.now t in
-    let now = begun_so_far c.args.jobs.now t c.args.jobs.now t first in
-    record {
-      so_far = first;
-      leads = record {
-        table = now;
-        kept = inl refl;
-        crash = leaves_nothing c.args.book.now (IsKeptOr (last_kept c.args.book.now) (AreBegun c.args.jobs.now t)) (g.met.D.Disk.left_is_image _) c.facts.ensures.either
-            c.facts.ensures.history.replayed (by_nothing c.args.book.now c.facts.ensures.step) (inl refl) (inr now);
-      };
-      counted = refl;
-      ready = λ is. is;
-      broken = λ is. is;
-      come = λ room. come_none c.args.book.now;
-      all = λ is. is;
-    }
+-- ---- a submit failed
 
-pub returns-in_err-answer_command-clause-leads : goal.returns-in_err-answer_command-clause-leads
-returns-in_err-answer_command-clause-leads g c =
-    let jobs = c.args.jobs.now in
-    let old = c.args.book.now in
-    let t = table_of old in
-    let mid = c.loop-new.book in
-    let new = c.new-item.result in
-    let i = c.loop-new.new-index in
-    let split = split_here jobs i new c.loop-new-test.true c.new-item.is in
-    let is : is_new (table_of mid) new ≡ c.is_missing.result = new_here c.table.result.now (table_of mid) new c.is_missing.result c.table.ensures c.is_missing.ensures in
-    let more = submitted_here jobs t i new (table_of mid) split c.loop-new.invariant.so_far c.other_jobs_stay.ensures c.requires.distinct c.requires.room (is ∙ c.if-is_missing.true)
-    c.in_ok-command.command c.in_ok-command.ensures in
-    let e = by_command c.in_ok-command.command in
-    leads_begun (AreBegun jobs t) old mid c.answer_command.new.book e c.loop-new.invariant.leads
-    (begun_so_far jobs t (drop (i + 1) jobs) (table_after (table_of mid) e) more) c.in_err-answer_command.ensures.begun c.answer_command.ensures.crash
+pub returns-in_err-take_missing-clause-few_calls : goal.returns-in_err-take_missing-clause-few_calls
+returns-in_err-take_missing-clause-few_calls g c = λ room. no_calls c.args.book.now c.take_missing.new.book (c.take_missing.ensures.keeper room)
 
-pub loop-new-preserved : goal.loop-new-preserved
-loop-new-preserved g c =
-    let jobs = c.args.jobs.now in
-    let old = c.args.book.now in
-    let t = table_of old in
-    let mid = c.loop-new.book in
-    let new = c.new-item.result in
-    let i = c.loop-new.new-index in
-    let split = split_here jobs i new c.loop-new-test.true c.new-item.is in
-    let is : is_new (table_of mid) new ≡ c.is_missing.result = new_here c.table.result.now (table_of mid) new c.is_missing.result c.table.ensures c.is_missing.ensures in
-    elim c.if-is_missing.branch [
-      | then-is_missing+in_ok-command+in_ok-answer_command w ↦
-          let e = by_command w.in_ok-command.command in
-          let later = w.answer_command.new.book in
-          let more = submitted_here jobs t i new (table_of mid) split c.loop-new.invariant.so_far c.other_jobs_stay.ensures c.requires.distinct c.requires.room (is ∙ w.if-is_missing.true)
-          w.in_ok-command.command w.in_ok-command.ensures in
-          rw w.book-is (record {
-            so_far = subst (λ (u : List JobParts). AreSubmitted jobs t (drop (i + 1) jobs) u) (sym w.in_ok-answer_command.ensures.table) more;
-            leads = leads_done (AreBegun jobs t) old mid later e c.loop-new.invariant.leads (begun_so_far jobs t (drop (i + 1) jobs) (table_after (table_of mid) e) more)
-                w.in_ok-answer_command.ensures.table
-                (kept_all (start_of later) (table_of later) (log_of later) (kept_of later) (history_of later).replayed w.in_ok-answer_command.ensures.kept) w.answer_command.ensures.crash;
-            counted = w.in_ok-answer_command.ensures.fault.counted ∙ c.loop-new.invariant.counted;
-            ready = λ whole. w.in_ok-answer_command.ensures.fault.ready (c.loop-new.invariant.ready whole);
-            broken = λ is. (let off = w.in_ok-answer_command.ensures.unbroken in absurd (true≢false (sym (c.loop-new.invariant.broken is) ∙ off)));
-            come = λ room. come_more old mid (none_lost jobs t (drop i jobs) (table_of mid) c.loop-new.invariant.so_far) c.loop-new.invariant.come e later
-                (ap (λ (m : Command). weight (by_command m)) w.in_ok-command.ensures) (ap length w.in_ok-answer_command.ensures.table ∙ longer_here jobs t i new (table_of mid) split c.loop-new.invariant.so_far c.requires.room (is ∙ w.if-is_missing.true)
-                w.in_ok-command.command w.in_ok-command.ensures) w.in_ok-answer_command.ensures.page w.answer_command.ensures.few_calls room;
-            all = λ before. w.in_ok-answer_command.ensures.kept;
-          })
-      | else-is_missing w ↦ rw w.book-is (record {
-        so_far = passed_here jobs t i new (table_of mid) split c.loop-new.invariant.so_far (is ∙ w.if-is_missing.false);
-        leads = c.loop-new.invariant.leads;
-        counted = c.loop-new.invariant.counted;
-        ready = c.loop-new.invariant.ready;
-        broken = c.loop-new.invariant.broken;
-        come = c.loop-new.invariant.come;
-        all = c.loop-new.invariant.all;
-      })
-    ]
+-- ---- none came
+
+pub returns-then-same-clause-kept : goal.returns-then-same-clause-kept
+returns-then-same-clause-kept g c = λ before.
+    let few = c.in_ok-take_missing.ensures.kept before in
+    let within = (history_of c.take_missing.new.book).within in
+    let held = c.count_jobs-held.ensures ∙ ap length c.table-before.ensures in
+    let now = c.count_jobs.ensures ∙ ap length c.table-after.ensures in
+    omega (arith, few, within, c.if-same.true, held, now)
+
+pub returns-then-same-clause-few_calls : goal.returns-then-same-clause-few_calls
+returns-then-same-clause-few_calls g c = λ room. no_calls c.args.book.now c.take_missing.new.book (c.take_missing.ensures.keeper room)
+
+pub returns-then-same-clause-come : goal.returns-then-same-clause-come
+returns-then-same-clause-come g c = λ room. come_same c.args.book.now c.take_missing.new.book (c.in_ok-take_missing.ensures.come room)
+
+-- ---- the keep failed
+
+pub returns-in_err-keep_all-clause-leads : goal.returns-in_err-keep_all-clause-leads
+returns-in_err-keep_all-clause-leads g c =
+    let such = AreBegun c.args.jobs.now (table_of c.args.book.now) in
+    leads_on such c.args.book.now c.take_missing.new.book c.keep_all.new.book c.take_missing.ensures.leads
+    (subst such (sym c.keep_all.ensures.table) c.take_missing.ensures.leads.table) (inl c.in_err-keep_all.ensures.unkept) c.keep_all.ensures.crash
+
+pub returns-in_err-keep_all-clause-comes : goal.returns-in_err-keep_all-clause-comes
+returns-in_err-keep_all-clause-comes g c = err_comes c.from_residual-in_err-keep_all.result c.in_err-keep_all.field-0.0 ComesWithoutRound
+    c.from_residual-in_err-keep_all.ensures.1 (of_keep c.in_err-keep_all.field-0.0 c.in_err-keep_all.ensures.others)
+
+pub returns-in_err-keep_all-clause-broken : goal.returns-in_err-keep_all-clause-broken
+returns-in_err-keep_all-clause-broken g c = λ is. err_comes c.from_residual-in_err-keep_all.result c.in_err-keep_all.field-0.0 ComesOverBroken
+    c.from_residual-in_err-keep_all.ensures.1 (told_broken c.in_err-keep_all.field-0.0 (c.in_err-keep_all.ensures.broken.1 (c.in_ok-take_missing.ensures.still is)))
+
+pub returns-in_err-keep_all-clause-few_unkept : goal.returns-in_err-keep_all-clause-few_unkept
+returns-in_err-keep_all-clause-few_unkept g c = λ all.
+    let few = c.take_missing.ensures.few_unkept all in
+    let fewer = c.keep_all.ensures.fewer in
+    omega (arith, few, fewer)
+
+pub returns-in_err-keep_all-clause-few_calls : goal.returns-in_err-keep_all-clause-few_calls
+returns-in_err-keep_all-clause-few_calls g c = λ room.
+    let same : table_of c.keep_all.new.book ≡ table_of c.take_missing.new.book = c.keep_all.ensures.table in
+    let held : c.count_jobs-held.result ≡ length (table_of c.args.book.now) = c.count_jobs-held.ensures ∙ ap length c.table-before.ensures in
+    let now : c.count_jobs.result ≡ length (table_of c.take_missing.new.book) = c.count_jobs.ensures ∙ ap length c.table-after.ensures in
+    let more = c.in_ok-take_missing.ensures.more in
+    let some : length (table_of c.args.book.now) < length (table_of c.take_missing.new.book) = omega (arith, more, c.if-same.false, held, now) in
+    one_keep c.args.book.now c.take_missing.new.book c.keep_all.new.book
+    (clock_same c.args.book.now c.take_missing.new.book (c.take_missing.ensures.keeper (rw (sym same) room))) c.keep_all.ensures.calls
+    (subst (λ (t : List JobParts). length (table_of c.args.book.now) < length t) (sym same) some)
+
+-- ---- all is kept
+
+pub returns-clause-leads : goal.returns-clause-leads
+returns-clause-leads g c =
+    let such = AreBegun c.args.jobs.now (table_of c.args.book.now) in
+    leads_on such c.args.book.now c.take_missing.new.book c.keep_all.new.book c.take_missing.ensures.leads
+    (subst such (sym c.keep_all.ensures.table) c.take_missing.ensures.leads.table) (inr c.in_ok-keep_all.ensures.last) c.keep_all.ensures.crash
 
 pub returns-clause-all : goal.returns-clause-all
-returns-clause-all g c =
-    let over : drop c.loop-new.new-index c.args.jobs.now ≡ [] = drop_all c.loop-new.new-index c.args.jobs.now c.loop-new-test.false in
-    all_begun c.args.jobs.now (table_of c.args.book.now) (table_of c.loop-new.book)
-    (subst (λ (l : List NewJob). AreSubmitted c.args.jobs.now (table_of c.args.book.now) l (table_of c.loop-new.book)) over c.loop-new.invariant.so_far)
+returns-clause-all g c = c.keep_all.ensures.table ∙ c.in_ok-take_missing.ensures.all
 
-pub returns-in_err-command-clause-few_unkept : goal.returns-in_err-command-clause-few_unkept
-returns-in_err-command-clause-few_unkept g c = λ all.
-    let none = none_unkept c.loop-new.book (c.loop-new.invariant.all all) in
-    omega (arith, none)
+pub returns-clause-kept : goal.returns-clause-kept
+returns-clause-kept g c = λ before. c.in_ok-keep_all.ensures.kept
 
-pub returns-in_err-answer_command-clause-few_unkept : goal.returns-in_err-answer_command-clause-few_unkept
-returns-in_err-answer_command-clause-few_unkept g c = λ all.
-    let none = none_unkept c.loop-new.book (c.loop-new.invariant.all all) in
-    let one = c.answer_command.ensures.few_unkept in
-    omega (arith, none, one)
+pub returns-clause-still : goal.returns-clause-still
+returns-clause-still g c = λ is. (let bad = c.in_ok-keep_all.ensures.broken.1 (c.in_ok-take_missing.ensures.still is) in cc)
 
 pub returns-clause-few_unkept : goal.returns-clause-few_unkept
 returns-clause-few_unkept g c = λ all.
-    let none = none_unkept c.loop-new.book (c.loop-new.invariant.all all) in
-    omega (arith, none)
-
-pub returns-in_err-answer_command-clause-broken : goal.returns-in_err-answer_command-clause-broken
-returns-in_err-answer_command-clause-broken g c = λ is. err_comes c.from_residual-in_err-answer_command.result c.in_err-answer_command.field-0.0 ComesOverBroken
-    c.from_residual-in_err-answer_command.ensures.1 (over_broken c.in_err-answer_command.field-0.0 c.in_err-answer_command.ensures.fault.causes
-    (c.in_err-answer_command.ensures.broken (c.loop-new.invariant.broken is)))
-
-pub returns-clause-still : goal.returns-clause-still
-returns-clause-still g c = c.loop-new.invariant.broken
-
-pub returns-in_err-command-clause-few_calls : goal.returns-in_err-command-clause-few_calls
-returns-in_err-command-clause-few_calls g c =
-    let mid = c.loop-new.book in
-    come_or_not c.args.book.now mid (none_lost c.args.jobs.now (table_of c.args.book.now) (drop c.loop-new.new-index c.args.jobs.now) (table_of mid) c.loop-new.invariant.so_far)
-    c.loop-new.invariant.come mid (omega arith) (λ spare. omega arith)
-
-pub returns-in_err-answer_command-clause-few_calls : goal.returns-in_err-answer_command-clause-few_calls
-returns-in_err-answer_command-clause-few_calls g c =
-    let jobs = c.args.jobs.now in
-    let old = c.args.book.now in
-    let t = table_of old in
-    let mid = c.loop-new.book in
-    let new = c.new-item.result in
-    let i = c.loop-new.new-index in
-    let split = split_here jobs i new c.loop-new-test.true c.new-item.is in
-    let is : is_new (table_of mid) new ≡ c.is_missing.result = new_here c.table.result.now (table_of mid) new c.is_missing.result c.table.ensures c.is_missing.ensures in
-    let longer = longer_here jobs t i new (table_of mid) split c.loop-new.invariant.so_far c.requires.room (is ∙ c.if-is_missing.true) c.in_ok-command.command c.in_ok-command.ensures in
-    let e = by_command c.in_ok-command.command in
-    come_or_not old mid (none_lost jobs t (drop i jobs) (table_of mid) c.loop-new.invariant.so_far) c.loop-new.invariant.come c.answer_command.new.book
-    (part_such (λ (u : List JobParts). length (table_of mid) ≤ length u) (table_of mid) e (table_of c.answer_command.new.book) (omega arith) (omega (arith, longer))
-    c.in_err-answer_command.ensures.begun.table) c.answer_command.ensures.few_calls
+    let few = c.take_missing.ensures.few_unkept all in
+    let fewer = c.keep_all.ensures.fewer in
+    omega (arith, few, fewer)
 
 pub returns-clause-few_calls : goal.returns-clause-few_calls
-returns-clause-few_calls g c =
-    let mid = c.loop-new.book in
-    come_or_not c.args.book.now mid (none_lost c.args.jobs.now (table_of c.args.book.now) (drop c.loop-new.new-index c.args.jobs.now) (table_of mid) c.loop-new.invariant.so_far)
-    c.loop-new.invariant.come mid (omega arith) (λ spare. omega arith)
+returns-clause-few_calls g c = λ room.
+    let same : table_of c.keep_all.new.book ≡ table_of c.take_missing.new.book = c.keep_all.ensures.table in
+    let held : c.count_jobs-held.result ≡ length (table_of c.args.book.now) = c.count_jobs-held.ensures ∙ ap length c.table-before.ensures in
+    let now : c.count_jobs.result ≡ length (table_of c.take_missing.new.book) = c.count_jobs.ensures ∙ ap length c.table-after.ensures in
+    let more = c.in_ok-take_missing.ensures.more in
+    let some : length (table_of c.args.book.now) < length (table_of c.take_missing.new.book) = omega (arith, more, c.if-same.false, held, now) in
+    one_keep c.args.book.now c.take_missing.new.book c.keep_all.new.book
+    (clock_same c.args.book.now c.take_missing.new.book (c.take_missing.ensures.keeper (rw (sym same) room))) c.keep_all.ensures.calls
+    (subst (λ (t : List JobParts). length (table_of c.args.book.now) < length t) (sym same) some)
 
 pub returns-clause-come : goal.returns-clause-come
-returns-clause-come g c = c.loop-new.invariant.come
+returns-clause-come g c = λ room.
+    let same : table_of c.keep_all.new.book ≡ table_of c.take_missing.new.book = c.keep_all.ensures.table in
+    let held : c.count_jobs-held.result ≡ length (table_of c.args.book.now) = c.count_jobs-held.ensures ∙ ap length c.table-before.ensures in
+    let now : c.count_jobs.result ≡ length (table_of c.take_missing.new.book) = c.count_jobs.ensures ∙ ap length c.table-after.ensures in
+    let more = c.in_ok-take_missing.ensures.more in
+    let some : length (table_of c.args.book.now) < length (table_of c.take_missing.new.book) = omega (arith, more, c.if-same.false, held, now) in
+    come_kept c.args.book.now c.take_missing.new.book c.keep_all.new.book (c.in_ok-take_missing.ensures.come (rw (sym same) room)) same c.keep_all.ensures.page c.keep_all.ensures.calls
+    (subst (λ (t : List JobParts). length (table_of c.args.book.now) < length t) (sym same) some)
