@@ -6,11 +6,13 @@ use Rattle.ic_meaning.specs.Plans.{rule_number}
 
 -- what the rules make of all plans that fired, round by round
 abbrev pub all_made : (ℕ → ℕ) → List Rule → List ℕ → List (List ℕ) → ℕ
-all_made f rs numbers made = sum_by (λ fired. sum_by (amount_made f rs) (map (rule_number numbers) fired)) made
+all_made f rs numbers made =
+    sum_by (λ fired. sum_by (amount_made f rs) (map (rule_number numbers) fired)) made
 
 -- and what they spend
 abbrev pub all_spent : (ℕ → ℕ) → List Rule → List ℕ → List (List ℕ) → ℕ
-all_spent f rs numbers made = sum_by (λ fired. sum_by (amount_spent f rs) (map (rule_number numbers) fired)) made
+all_spent f rs numbers made =
+    sum_by (λ fired. sum_by (amount_spent f rs) (map (rule_number numbers) fired)) made
 
 -- what plans amount to that fired so often, from a place on, each by the number of its rule
 abbrev pub by_counts : (ℕ → ℕ) → (numbers counts : List ℕ) → ℕ → ℕ

@@ -416,10 +416,10 @@ pub fn counts_tell_the_amounts_of_rounds()
         (f : ℕ → ℕ) → (is : EndsByRounds limits most asked input reached line)
         → AllByRecursion (λ o. amount f
         (iterate is.system.rules.rules o.round is.system.config)
-        + by_counts (amount_spent f is.system.rules.rules) is.rounded.come.rule_numbers o.net.counts 0
-        ≡ amount f is.system.config
-        + by_counts (amount_made f is.system.rules.rules) is.rounded.come.rule_numbers o.net.counts 0)
-        is.rounded.ends.told }
+        + by_counts (amount_spent f is.system.rules.rules) is.rounded.come.rule_numbers
+        o.net.counts 0 ≡ amount f is.system.config
+        + by_counts (amount_made f is.system.rules.rules) is.rounded.come.rule_numbers
+        o.net.counts 0) is.rounded.ends.told }
 {
     ic_round::laws::chains_are_steps();
     ic_round::laws::rounds_are_steps();
