@@ -7,4 +7,7 @@ pub const MAX_LINES: usize = 1_000_000;
 pub const PAGE_WEIGHT: u64 = 65_536;
 
 /// A lap of fewer equations is left to the thread that serves, since workers would take longer.
-pub(crate) const ENOUGH: usize = 2_000;
+pub(crate) const ENOUGH: usize = 1_000;
+
+/// So is one of more words than these for each equation.
+pub(crate) const MOST_WORDS: usize = 64;

@@ -6,7 +6,7 @@ ghost use Rattle.ic_pool.specs.Played.{played};
 ghost use Rattle.ic_pool.specs.PoolFault.{Answers};
 ghost use Rattle.ic_pool.specs.Workers.{ByWorkers, played_by};
 
-use crate::limits::ENOUGH;
+use crate::limits::{ENOUGH, MOST_WORDS};
 use ic_book::Book;
 use ic_disk::Disk;
 use ic_flat_round::Workspace;
@@ -85,17 +85,19 @@ impl Makers {
     }
 }
 
-/// Whether several threads gain by a lap: at least two jobs run, with enough equations together.
+/// Whether several threads gain by a lap: at least two jobs run, with enough equations together, and with few words for each of
+/// them. Where rounds copy large nets and do little else, threads lose time by the memory that one takes and another gives back.
 fn is_worth_it(jobs: &[Job]) -> bool {
-    let mut running: usize = 0;
-    let mut equations: usize = 0;
+    let (mut running, mut equations, mut words) = (0_usize, 0_usize, 0_usize);
     for job in jobs {
         if job.state() == State::Running {
+            let config = job.config();
             running = running.saturating_add(1);
-            equations = equations.saturating_add(job.config().equations_len());
+            equations = equations.saturating_add(config.equations_len());
+            words = words.saturating_add(config.words().len());
         }
     }
-    running > 1 && equations >= ENOUGH
+    running > 1 && equations >= ENOUGH && words / MOST_WORDS <= equations
 }
 
 /// The flights that are due from a place on, one for each job, at most so many.
