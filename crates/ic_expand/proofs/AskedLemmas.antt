@@ -1,16 +1,19 @@
 -- What is known of a copier or an eraser that isn't refused, and the rules that it gets.
-use Rattle.std.proofs.Common.{◌≡◌, ℕ, suc, ◌&&◌, ◌||◌, not, Bool, true, false, cond, List, [], ◌∷◌, ◌++◌, Option, None, Some, option_map, is_some, filter, slice_get, refl, sym, ap, ◌∙◌, subst, append_assoc}
-use Rattle.std.proofs.lemmas.Bool.{and_parts, false≢true}
+use Rattle.std.proofs.Common.{◌≡◌, ℕ, suc, ◌<◌, ◌==◌, ◌&&◌, ◌||◌, not, Bool, true, false, cond, List, [], ◌∷◌, ◌++◌, Option, None, Some, option_map, is_some, filter, length, map, slice_get, refl, sym, ap, ◌∙◌, subst, append_assoc}
 use Rattle.std.specs.List.{list_any, position, AllByRecursion}
 use Rattle.std.specs.Str.{bytes_eq}
 use Rattle.std.specs.Cmp.Lexicographic.{bytes_decides}
+use Rattle.std.specs.BTreeSet.{BTreeSet, contains}
 use Rattle.ic_term.specs.Symbol.{Symbol, fits_limits, texts}
+use Rattle.ic_expand.specs.declared.fault.Reason.{Reason}
+use Rattle.ic_expand.specs.declared.fault.Reason.TheVariants.{Again, NoRules}
 use Rattle.ic_expand.specs.declared.spot.Kind.{Kind}
 use Rattle.ic_expand.specs.declared.spot.Spot.TheVariants.{Asked}
 use Rattle.ic_expand.specs.declared.writing.Sheet.{Sheet as Found}
-use Rattle.ic_expand.specs.Reading.{is_among}
+use Rattle.ic_expand.specs.Names.{is_among}
 use Rattle.ic_expand.specs.Generic.{is_of, is_wanted}
-use Rattle.ic_expand.specs.Expanding.{Sheet, arity_in, is_for, is_refused_at, wanted}
+use Rattle.ic_expand.specs.Expanding.{Sheet, arity_in, is_for, lack_of, refused_at, unless_some, wanted}
+use Rattle.ic_expand.specs.inner.Given.{AreGiven}
 use Rattle.ic_expand.specs.inner.Sheets.{IsSheet, gives, is_missing, sheet_in}
 use Rattle.ic_expand.proofs.Placed.{any_position, position-cons}
 use Rattle.ic_expand.proofs.GivenLemmas.{given_is}
@@ -66,10 +69,6 @@ filter_same : (p q : Symbol → Bool) (is : Symbol → Type 0) → ((t : Symbol)
 filter_same p q is same [] all = refl
 filter_same p q is same (t ∷ ts) all = (λ i. cond (same t all.0 i) (t ∷ filter_same p q is same ts all.1 i) (filter_same p q is same ts all.1 i))
 
-any_same : (p q : Symbol → Bool) (is : Symbol → Type 0) → ((t : Symbol) → is t → p t ≡ q t) → (ss : List Symbol) → AllByRecursion is ss → list_any p ss ≡ list_any q ss
-any_same p q is same [] all = refl
-any_same p q is same (t ∷ ts) all = (λ i. same t all.0 i || any_same p q is same ts all.1 i)
-
 module _ (s : Found) (sheet : IsSheet s) (earlier : List (List ℕ)) (g : List ℕ) (i : ℕ) (at : position (bytes_eq g) (texts (sheet_in s).symbols) ≡ Some i) (fresh : is_among g earlier ≡ false) where
   at_known : position (bytes_eq g) s.known ≡ Some i
   at_known = ap (position (bytes_eq g)) sheet.known ∙ at
@@ -98,11 +97,6 @@ module _ (s : Found) (sheet : IsSheet s) (earlier : List (List ℕ)) (g : List �
   wanted_are = filter_same (is_missing s earlier i) (is_wanted (sheet_in s).pairs earlier g) (λ t. list_any (bytes_eq t.text) (texts (sheet_in s).symbols) ≡ true) missing_is (sheet_in s).symbols
       (all_known [] (sheet_in s).symbols)
 
-  -- one is missing where one is wanted
-  pub wants_any : list_any (is_missing s earlier i) (sheet_in s).symbols ≡ list_any (is_wanted (sheet_in s).pairs earlier g) (sheet_in s).symbols
-  wants_any = any_same (is_missing s earlier i) (is_wanted (sheet_in s).pairs earlier g) (λ t. list_any (bytes_eq t.text) (texts (sheet_in s).symbols) ≡ true) missing_is (sheet_in s).symbols
-      (all_known [] (sheet_in s).symbols)
-
 -- ---- refusals
 
 unwanted : (fits given among : Bool) → (fits && not given && not true && not among) ≡ false
@@ -111,30 +105,52 @@ unwanted true false among = refl
 unwanted false given among = refl
 
 -- for one symbol twice none is wanted
-pub none_again : (pairs : List (List ℕ × List ℕ)) (earlier : List (List ℕ)) (g : List ℕ) → is_among g earlier ≡ true → (ss : List Symbol) → list_any (is_wanted pairs earlier g) ss ≡ false
+none_again : (pairs : List (List ℕ × List ℕ)) (earlier : List (List ℕ)) (g : List ℕ) → is_among g earlier ≡ true → (ss : List Symbol) → filter (is_wanted pairs earlier g) ss ≡ []
 none_again pairs earlier g again [] = refl
 none_again pairs earlier g again (t ∷ ts) =
     let no = ap (λ b. fits_limits t.text t.arity && not (list_any (is_of g t.text) pairs) && not b && not (is_among t.text earlier)) again
     ∙ unwanted (fits_limits t.text t.arity) (list_any (is_of g t.text) pairs) (is_among t.text earlier) in
-    ap (λ b. b || list_any (is_wanted pairs earlier g) ts) no ∙ none_again pairs earlier g again ts
+    ap (λ b. cond b (t ∷ filter (is_wanted pairs earlier g) ts) (filter (is_wanted pairs earlier g) ts)) no ∙ none_again pairs earlier g again ts
 
-is_true : (b : Bool) → not b ≡ false → b ≡ true
-is_true true e = refl
-is_true false e = absurd (false≢true (sym e))
+pub lack_again : (sheet : Sheet) (earlier : List (List ℕ)) (g : List ℕ) → is_among g earlier ≡ true → Some Again ≡ unless_some (is_among g earlier) (wanted sheet earlier g)
+lack_again sheet earlier g again = sym ((λ i. unless_some (again i) (none_again sheet.pairs earlier g again sheet.symbols i)))
+
+abbrev pub lack_by : Bool → Option Reason
+lack_by true = None
+lack_by false = Some NoRules
+
+lack_any : (p : Symbol → Bool) (ss : List Symbol) → lack_by (list_any p ss) ≡ unless_some false (filter p ss)
+lack_any p [] = refl
+lack_any p (t ∷ ts) = by (p t) (lack_any p ts)
+  where
+    by : (b : Bool) → lack_by (list_any p ts) ≡ unless_some false (filter p ts) → lack_by (b || list_any p ts) ≡ unless_some false (cond b (t ∷ filter p ts) (filter p ts))
+    by true later = refl
+    by false later = later
+
+module _ (s : Found) (sheet : IsSheet s) (earlier : List (List ℕ)) (g : List ℕ) (i : ℕ) (at : position (bytes_eq g) (texts (sheet_in s).symbols) ≡ Some i) (fresh : is_among g earlier ≡ false) where
+  pub lack_wanted : (b : Bool) → list_any (is_missing s earlier i) (sheet_in s).symbols ≡ b → lack_by b ≡ unless_some (is_among g earlier) (wanted (sheet_in s) earlier g)
+  lack_wanted b is =
+      ap lack_by (sym is) ∙ lack_any (is_missing s earlier i) (sheet_in s).symbols
+      ∙ (λ k. unless_some (sym fresh k) (wanted_are s sheet earlier g i at fresh k))
+
+-- one that isn't refused has its arguments and is fresh
+pub asked_fine : (sheet : Sheet) (earlier : List (List ℕ)) (kind : Kind) (g : List ℕ) → refused_at sheet earlier (Asked kind) g ≡ None
+    → (is_some (arity_in sheet.symbols g) ≡ true) × (is_among g earlier ≡ false)
+asked_fine sheet earlier kind g fine = by (arity_in sheet.symbols g) fine
+  where
+    again : (b : Bool) → is_among g earlier ≡ b → unless_some (is_among g earlier) (wanted sheet earlier g) ≡ None → b ≡ false
+    again true is none = let z : Some Again ≡ None = lack_again sheet earlier g is ∙ none in cc
+    again false is none = refl
+
+    test : (t : Bool) (o : Option ℕ) → cond t (unless_some (is_among g earlier) (wanted sheet earlier g)) (Some (lack_of kind g o)) ≡ None → is_among g earlier ≡ false
+    test true o none = again (is_among g earlier) refl none
+    test false o none = let z : Some (lack_of kind g o) ≡ None = none in cc
+
+    by : (o : Option ℕ) → cond (is_for kind o) (unless_some (is_among g earlier) (wanted sheet earlier g)) (Some (lack_of kind g o)) ≡ None
+        → (is_some o ≡ true) × (is_among g earlier ≡ false)
+    by None none = let z : Some (lack_of kind g None) ≡ None = none in cc
+    by (Some n) none = (refl, test (is_for kind (Some n)) (Some n) none)
 
 pub is_for_some : (kind : Kind) (o : Option ℕ) → is_for kind o ≡ true → is_some o ≡ true
 is_for_some kind None is = let z : false ≡ true = is in cc
 is_for_some kind (Some n) is = refl
-
--- one that isn't refused has its arguments and is fresh
-pub asked_fine : (sheet : Sheet) (earlier : List (List ℕ)) (kind : Kind) (g : List ℕ) → is_refused_at sheet earlier (Asked kind) g ≡ false
-    → (is_some (arity_in sheet.symbols g) ≡ true) × (is_among g earlier ≡ false)
-asked_fine sheet earlier kind g fine =
-    let fits = is_for kind (arity_in sheet.symbols g) in
-    let some = list_any (is_wanted sheet.pairs earlier g) sheet.symbols in
-    let both = and_parts fits some (is_true (fits && some) fine) in
-    (is_for_some kind (arity_in sheet.symbols g) both.0, fresh (is_among g earlier) refl both.1)
-  where
-    fresh : (b : Bool) → is_among g earlier ≡ b → list_any (is_wanted sheet.pairs earlier g) sheet.symbols ≡ true → b ≡ false
-    fresh true again some = absurd (false≢true (sym (none_again sheet.pairs earlier g again sheet.symbols) ∙ some))
-    fresh false again some = refl

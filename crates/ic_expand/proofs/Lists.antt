@@ -4,7 +4,7 @@ use Rattle.std.specs.Prelude.{OnOk, is_ok}
 use Rattle.std.specs.List.{list_any, position, position_or_len}
 use Rattle.std.specs.Str.{bytes_eq}
 use Rattle.std.proofs.lemmas.List.{length-map, map-append}
-use Rattle.ic_expand.specs.Reading.{with_word}
+use Rattle.ic_expand.specs.Names.{with_word}
 
 pub any-map : {X Y : Type 0} (f : X → Y) (p : Y → Bool) (xs : List X) → list_any p (map f xs) ≡ list_any (λ x. p (f x)) xs
 any-map f p [] = refl

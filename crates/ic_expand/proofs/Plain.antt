@@ -1,21 +1,26 @@
 -- A text without comments, long names and generic rules is written as it is; and comments mean nothing.
-use Rattle.std.proofs.Common.{◌≡◌, ℕ, ◌+◌, ◌≤◌, ◌==◌, Bool, true, false, not, cond, List, [], ◌∷◌, ◌++◌, length, Result, Ok, Err, codes, refl, sym, ap, ◌∙◌, subst, append-nil, nat_le, arith}
+use Rattle.std.proofs.Common.{◌≡◌, ℕ, ◌+◌, ◌≤◌, ◌==◌, Bool, true, false, not, cond, List, [], ◌∷◌, ◌++◌, length, Option, None, Result, Ok, Err, codes, refl, sym, ap, ◌∙◌, subst, append-nil, nat_le, arith}
 use Rattle.std.specs.List.{concat, fold, list_any}
 use Rattle.std.specs.Str.{bytes_eq}
 use Rattle.std.proofs.lemmas.Bool.{false≢true, or_parts}
 use Rattle.std.proofs.lemmas.Bool.Decides.{nat_tests}
 use Rattle.std.proofs.lemmas.Slice.Eq.{bytes_eq-Decides}
 use Rattle.ic_text.specs.Token.{is_blank}
-use Rattle.ic_text.specs.declared.fault.TextFault.{TextFault}
-use Rattle.ic_text.specs.declared.fault.TextFault.TheVariants.{Limit, Syntax}
+use Rattle.ic_expand.specs.declared.fault.Reason.{Reason}
+use Rattle.ic_expand.specs.declared.fault.Reason.TheVariants.{TextBytes, NoText}
+use Rattle.ic_expand.specs.declared.fault.ExpandFault.TheVariants.{Refused}
+use Rattle.ic_expand.specs.declared.fault.ExpandFault.{ExpandFault}
 use Rattle.ic_expand.specs.declared.names.Spelling.TheVariants.{Long}
 use Rattle.ic_expand.specs.declared.spot.Spot.{Spot}
 use Rattle.ic_expand.specs.declared.spot.Spot.TheVariants.{Elsewhere, Opening, Asked, Given}
 use Rattle.ic_expand.specs.declared.spot.Kind.TheVariants.{Copier, Eraser}
 use Rattle.ic_expand.specs.declared.limits.TheConstants.{MAX_RICH_TEXT}
-use Rattle.ic_expand.specs.Pieces.{is_begun, uncommented, uncommented_from, first_byte, pieces, after, after_first, after_other, opens_rule}
-use Rattle.ic_expand.specs.Reading.{is_named, is_spelt, names, told_word, with_word}
-use Rattle.ic_expand.specs.Expanding.{Sheet, before_text, body_expanded, expanded, is_refused, kept_word, piece_text, sheet_of, with_generic, written, written_pieces}
+use Rattle.ic_expand.specs.Begins.{blanks_before, is_begun}
+use Rattle.ic_expand.specs.Comments.{uncommented, uncommented_from}
+use Rattle.ic_expand.specs.Pieces.{first_byte, pieces}
+use Rattle.ic_expand.specs.Spots.{after, after_first, after_other, opens_rule}
+use Rattle.ic_expand.specs.Names.{is_named, is_spelt, names, told_word, with_word}
+use Rattle.ic_expand.specs.Expanding.{Sheet, before_text, body_expanded, expanded, kept_word, piece_text, refusal, sheet_of, unless_refused, with_generic, written, written_pieces}
 use Rattle.ic_expand.proofs.Cutting.{concat-pieces}
 
 le-true : (m n : ℕ) → m ≤ n → nat_le m n ≡ true
@@ -23,7 +28,7 @@ le-true m n less = grind (arith, nat_tests)
 
 -- a text that isn't too long
 fits : (text : List ℕ) → length text ≤ MAX_RICH_TEXT → expanded text ≡ body_expanded (uncommented text)
-fits text short = ap (λ (b : Bool). cond b (body_expanded (uncommented text)) (Err Limit)) (le-true (length text) MAX_RICH_TEXT short)
+fits text short = ap (λ (b : Bool). cond b (body_expanded (uncommented text)) (Err (Refused TextBytes MAX_RICH_TEXT))) (le-true (length text) MAX_RICH_TEXT short)
 
 -- ---- comments
 
@@ -106,28 +111,28 @@ free_other _ p plain free = absurd free
 free_after : (spot : Spot) (p : List ℕ) → is_spelt Long p ≡ false → IsFree spot → IsFree (after spot p)
 free_after spot p plain free = free_by (is_blank (first_byte p)) (opens_rule (first_byte p)) spot (after_other spot p) free (free_other spot p plain free)
 
-neither : (b : Bool) → cond b false false ≡ false
-neither true = refl
-neither false = refl
+either_none : (b : Bool) (o : Option Reason) → o ≡ None → cond b None o ≡ None
+either_none true o is = refl
+either_none false o is = is
 
-free_refusal : (sheet : Sheet) (earlier : List (List ℕ)) (spot : Spot) (p : List ℕ) → IsFree spot → is_refused sheet earlier spot p ≡ false
+free_refusal : (sheet : Sheet) (earlier : List (List ℕ)) (spot : Spot) (p : List ℕ) → IsFree spot → refusal sheet earlier spot p ≡ None
 free_refusal sheet earlier (Asked kind) p free = absurd free
 free_refusal sheet earlier Given p free = absurd free
-free_refusal sheet earlier _ p free = neither (is_blank (first_byte p))
+free_refusal sheet earlier _ p free = either_none (is_blank (first_byte p)) None refl
 
 free_text : (sheet : Sheet) (earlier : List (List ℕ)) (spot : Spot) (p : List ℕ) → sheet.longs ≡ [] → is_spelt Long p ≡ false → IsFree spot → piece_text sheet earlier spot p ≡ p
 free_text sheet earlier Elsewhere p none plain free = ap (λ (longs : List (List ℕ)). told_word longs sheet.spare p) none
 free_text sheet earlier Opening p none plain free = ap (λ (s : Spot). kept_word s p) (no_keyword p plain)
 free_text sheet earlier _ p none plain free = absurd free
 
-written_plain : (sheet : Sheet) (earlier : List (List ℕ)) (spot : Spot) (ps : List (List ℕ)) → sheet.longs ≡ [] → IsFree spot → list_any (is_spelt Long) ps ≡ false
-    → written sheet earlier spot ps ≡ Ok (concat ps)
-written_plain sheet earlier spot [] none free plain = refl
-written_plain sheet earlier spot (p ∷ ps) none free plain =
+written_plain : (sheet : Sheet) (earlier : List (List ℕ)) (spot : Spot) (at : ℕ) (ps : List (List ℕ)) → sheet.longs ≡ [] → IsFree spot → list_any (is_spelt Long) ps ≡ false
+    → written sheet earlier spot at ps ≡ Ok (concat ps)
+written_plain sheet earlier spot at [] none free plain = refl
+written_plain sheet earlier spot at (p ∷ ps) none free plain =
     let parts = or_parts (is_spelt Long p) (list_any (is_spelt Long) ps) plain in
-    let rest = written_plain sheet (with_generic earlier spot p) (after spot p) ps none (free_after spot p parts.0 free) parts.1 in
-    ap (λ (b : Bool). cond b (Err Syntax) (before_text (piece_text sheet earlier spot p) (written sheet (with_generic earlier spot p) (after spot p) ps))) (free_refusal sheet earlier spot p free)
-    ∙ ap (λ (r : Result (List ℕ) TextFault). before_text (piece_text sheet earlier spot p) r) rest
+    let rest = written_plain sheet (with_generic earlier spot p) (after spot p) (at + length p) ps none (free_after spot p parts.0 free) parts.1 in
+    ap (λ (r : Option Reason). unless_refused r at (piece_text sheet earlier spot p) (written sheet (with_generic earlier spot p) (after spot p) (at + length p) ps)) (free_refusal sheet earlier spot p free)
+    ∙ ap (λ (r : Result (List ℕ) ExpandFault). before_text (piece_text sheet earlier spot p) r) rest
     ∙ ap (λ (t : List ℕ). Ok (t ++ concat ps)) (free_text sheet earlier spot p none parts.0 free)
 
 no_names : (spot : Spot) (ps : List (List ℕ)) → list_any (is_spelt Long) ps ≡ false → names Long spot ps ≡ []
@@ -141,7 +146,7 @@ no_names spot (p ∷ ps) plain =
     unnamed _ isnt = isnt
 
 begun-expanded : (body : List ℕ) → is_begun body ≡ true → body_expanded body ≡ written_pieces (pieces body)
-begun-expanded body begun = ap (λ (b : Bool). cond b (written_pieces (pieces body)) (Err Syntax)) begun
+begun-expanded body begun = ap (λ (b : Bool). cond b (written_pieces (pieces body)) (Err (Refused NoText (blanks_before body)))) begun
 
 pub plain-expanded : (text : List ℕ) → length text ≤ MAX_RICH_TEXT → is_begun text ≡ true → list_any (λ b. b == 35) text ≡ false → list_any (is_spelt Long) (pieces text) ≡ false
     → expanded text ≡ Ok text
@@ -149,5 +154,5 @@ plain-expanded text short begun none plain =
     fits text short
     ∙ ap body_expanded (none-commented text none)
     ∙ begun-expanded text begun
-    ∙ written_plain (sheet_of (pieces text)) [] Elsewhere (pieces text) (ap (fold with_word []) (no_names Elsewhere (pieces text) plain)) tt plain
+    ∙ written_plain (sheet_of (pieces text)) [] Elsewhere 0 (pieces text) (ap (fold with_word []) (no_names Elsewhere (pieces text) plain)) tt plain
     ∙ ap (λ (t : List ℕ). Ok t) (concat-pieces text)

@@ -13,8 +13,8 @@ use Rattle.ic_expand.specs.declared.names.Spelling.{Spelling}
 use Rattle.ic_expand.specs.declared.names.Spelling.TheVariants.{Short, Long}
 use Rattle.ic_expand.specs.declared.spot.Spot.{Spot}
 use Rattle.ic_expand.specs.declared.spot.Spot.TheVariants.{Elsewhere, Opening}
-use Rattle.ic_expand.specs.Pieces.{after}
-use Rattle.ic_expand.specs.Reading.{AreApart, IsRenaming, is_among, is_named, is_rich_name, is_spelt, names, names_of, spare_of, told_at, told_word, with_word}
+use Rattle.ic_expand.specs.Spots.{after}
+use Rattle.ic_expand.specs.Names.{AreApart, IsRenaming, is_among, is_named, is_rich_name, is_spelt, names, names_of, spare_of, told_at, told_word, with_word}
 use Rattle.ic_expand.proofs.Spares.{spare_free, spare_placed, spares_suffice}
 
 -- ---- lists of words

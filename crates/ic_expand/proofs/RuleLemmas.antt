@@ -3,7 +3,7 @@ use Rattle.std.proofs.Common.{◌≡◌, ℕ, zero, suc, ◌<◌, ◌&&◌, not,
 use Rattle.std.specs.List.{list_any}
 use Rattle.ic_term.specs.Symbol.{Symbol, fits_limits}
 use Rattle.ic_expand.specs.declared.spot.Kind.{Kind}
-use Rattle.ic_expand.specs.Reading.{is_among}
+use Rattle.ic_expand.specs.Names.{is_among}
 use Rattle.ic_expand.specs.Generic.{generic_rule, is_of, is_wanted}
 use Rattle.ic_expand.specs.Expanding.{Sheet, rules_of}
 

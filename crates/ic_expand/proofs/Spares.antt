@@ -7,7 +7,7 @@ use Rattle.std.proofs.lemmas.List.FromFn.{length-range_with_len}
 use Rattle.std.proofs.lemmas.Slice.Eq.{bytes_eq-Decides}
 use Rattle.ic_text.specs.Name.{name_number, name_text}
 use Rattle.ic_text.specs.lemmas.NameLemmas.{name_number-name_text}
-use Rattle.ic_expand.specs.Reading.{is_among, spare_numbers, spare_of}
+use Rattle.ic_expand.specs.Names.{is_among, spare_numbers, spare_of}
 use Rattle.ic_rules.specs.lemmas.Spared.{range_more, spared_placed}
 
 -- ---- how many of these numbers are taken

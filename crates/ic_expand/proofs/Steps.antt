@@ -1,15 +1,17 @@
 -- What one piece more makes of what is found in a text.
-use Rattle.std.proofs.Common.{◌≡◌, ℕ, ◌+◌, ◌||◌, Bool, true, false, cond, List, ◌∷◌, ◌++◌, refl, sym, ap, ◌∙◌, append_assoc, Result, Ok, Err}
+use Rattle.std.proofs.Common.{◌≡◌, ℕ, ◌+◌, ◌||◌, Bool, true, false, cond, List, ◌∷◌, ◌++◌, length, refl, sym, ap, ◌∙◌, append_assoc, Option, None, Result, Ok, Err}
 use Rattle.std.specs.List.{concat, fold, list_any}
 use Rattle.std.proofs.lemmas.Bool.{false≢true}
 use Rattle.ic_term.specs.Symbol.{Symbol}
-use Rattle.ic_text.specs.declared.fault.TextFault.{TextFault}
-use Rattle.ic_text.specs.declared.fault.TextFault.TheVariants.{Syntax}
+use Rattle.ic_expand.specs.declared.fault.Reason.{Reason}
+use Rattle.ic_expand.specs.declared.fault.ExpandFault.{ExpandFault}
 use Rattle.ic_expand.specs.declared.names.Spelling.{Spelling}
 use Rattle.ic_expand.specs.declared.spot.Spot.{Spot}
-use Rattle.ic_expand.specs.Pieces.{pieces, after}
-use Rattle.ic_expand.specs.Reading.{arguments, heads, is_head, is_use, noted, partner, uses, is_named, names, with_word}
-use Rattle.ic_expand.specs.Expanding.{Sheet, before_text, is_refused, piece_text, with_generic, written}
+use Rattle.ic_expand.specs.Pieces.{pieces}
+use Rattle.ic_expand.specs.Spots.{after}
+use Rattle.ic_expand.specs.Reading.{arguments, heads, is_head, is_use, noted, partner, uses}
+use Rattle.ic_expand.specs.Names.{is_named, names, with_word}
+use Rattle.ic_expand.specs.Expanding.{Sheet, before_text, piece_text, refusal, unless_refused, with_generic, written}
 use Rattle.ic_expand.proofs.Cutting.{concat-pieces}
 
 -- ---- a list with one element more where a test says so
@@ -60,24 +62,18 @@ module _ (ws : List (List ℕ)) (spelling : Spelling) (spot : Spot) (p more rest
 
 -- ---- what is written
 
-pub before-before : (front text : List ℕ) (r : Result (List ℕ) TextFault) → before_text front (before_text text r) ≡ before_text (front ++ text) r
+pub before-before : (front text : List ℕ) (r : Result (List ℕ) ExpandFault) → before_text front (before_text text r) ≡ before_text (front ++ text) r
 before-before front text (Ok rest) = ap (λ (t : List ℕ). Ok t) (sym (append_assoc front text rest))
 before-before front text (Err fault) = refl
 
-module _ (sheet : Sheet) (earlier : List (List ℕ)) (spot : Spot) (out : List ℕ) (p more rest : List ℕ) (cut : pieces rest ≡ p ∷ pieces more) where
+module _ (sheet : Sheet) (earlier : List (List ℕ)) (spot : Spot) (at : ℕ) (out : List ℕ) (p more rest : List ℕ) (cut : pieces rest ≡ p ∷ pieces more) where
   -- what follows the piece
-  abbrev later : Result (List ℕ) TextFault
-  later = written sheet (with_generic earlier spot p) (after spot p) (pieces more)
+  abbrev later : Result (List ℕ) ExpandFault
+  later = written sheet (with_generic earlier spot p) (after spot p) (at + length p) (pieces more)
 
-  pub put_more : is_refused sheet earlier spot p ≡ false
-      → before_text out (written sheet earlier spot (pieces rest)) ≡ before_text (out ++ piece_text sheet earlier spot p) later
+  pub put_more : refusal sheet earlier spot p ≡ None
+      → before_text out (written sheet earlier spot at (pieces rest)) ≡ before_text (out ++ piece_text sheet earlier spot p) later
   put_more none =
-      ap (λ ps. before_text out (written sheet earlier spot ps)) cut
-      ∙ ap (λ (b : Bool). before_text out (cond b (Err Syntax) (before_text (piece_text sheet earlier spot p) later))) none
+      ap (λ ps. before_text out (written sheet earlier spot at ps)) cut
+      ∙ ap (λ (r : Option Reason). before_text out (unless_refused r at (piece_text sheet earlier spot p) later)) none
       ∙ before-before out (piece_text sheet earlier spot p) later
-
-  -- a piece that is refused
-  pub stopped : is_refused sheet earlier spot p ≡ true → before_text out (written sheet earlier spot (pieces rest)) ≡ Err Syntax
-  stopped is =
-      ap (λ ps. before_text out (written sheet earlier spot ps)) cut
-      ∙ ap (λ (b : Bool). before_text out (cond b (Err Syntax) (before_text (piece_text sheet earlier spot p) later))) is

@@ -8,15 +8,18 @@ use Rattle.std.proofs.lemmas.Bool.Decides.{nat_tests}
 use Rattle.std.specs.Io.KnownBytes.{Appends, Consumes}
 use Rattle.ic_output.specs.Output.{AppendsFront}
 use Rattle.ic_text.specs.declared.fault.TextFault.{TextFault}
-use Rattle.ic_text.specs.declared.fault.TextFault.TheVariants.{Limit}
 use Rattle.ic_streams.specs.Streams.{FaultOf, IsAnswered, OfText}
 use Rattle.ic_streams.specs.declared.fault.StreamFault.{StreamFault}
 use Rattle.ic_streams.specs.declared.fault.StreamFault.TheVariants.{Text, Write}
 use Rattle.ic_streams.specs.lemmas.Reading.{answered_as, answered_cut, answered_refused, answered_written}
+use Rattle.ic_expand.specs.declared.fault.Reason.TheVariants.{TextBytes}
+use Rattle.ic_expand.specs.declared.fault.ExpandFault.TheVariants.{Refused}
 use Rattle.ic_expand.specs.declared.limits.TheConstants.{MAX_RICH_TEXT}
-use Rattle.ic_expand.specs.Pieces.{uncommented, pieces}
+use Rattle.ic_expand.specs.Comments.{uncommented}
 use Rattle.ic_expand.specs.Expanding.{body_expanded, expanded}
-use Rattle.ic_expand.specs.Streams.{has_form, have_form, Expands, IsRefusedWith, IsWrittenAs, TakesSome, TakesWhole}
+use Rattle.ic_expand.specs.Forms.{has_form, have_form}
+use Rattle.ic_expand.specs.Pieces.{pieces}
+use Rattle.ic_expand.specs.Streams.{Expands, IsRefusedWith, IsWrittenAs, TakesSome, TakesWhole}
 
 -- two reads, one after the other
 pub taken_more : {T E : Type 0} (r : Result T E) (a b c : Option (List ℕ)) (xs ys : List ℕ) → Consumes a b xs → Consumes b c ys → length xs + length ys ≤ MAX_RICH_TEXT + 1
@@ -29,8 +32,8 @@ taken_more (Err e) a b c xs ys p q bound = (xs ++ ys, Consumes-trans a b c xs ys
 le-false : (m n : ℕ) → n < m → nat_le m n ≡ false
 le-false m n less = grind (arith, nat_tests)
 
-too_long : (text : List ℕ) → MAX_RICH_TEXT < length text → expanded text ≡ Err Limit
-too_long text long = ap (λ (b : Bool). cond b (body_expanded (uncommented text)) (Err Limit)) (le-false (length text) MAX_RICH_TEXT long)
+too_long : (text : List ℕ) → MAX_RICH_TEXT < length text → expanded text ≡ Err (Refused TextBytes MAX_RICH_TEXT)
+too_long text long = ap (λ (b : Bool). cond b (body_expanded (uncommented text)) (Err (Refused TextBytes MAX_RICH_TEXT))) (le-false (length text) MAX_RICH_TEXT long)
 
 -- a text is expanded as this front of it is, where the front is too long, or the whole text
 front_expanded : (front rest : List ℕ) → (length front ≤ MAX_RICH_TEXT → rest ≡ []) → expanded (front ++ rest) ≡ expanded front
@@ -66,7 +69,7 @@ written_as front text output same forms s = by_form (has_form front) refl
 refused_as : (front text : List ℕ) (fault : TextFault) → expanded text ≡ expanded front → has_form text ≡ has_form front → IsRefusedWith front fault → IsRefusedWith text fault
 refused_as front text fault same forms s = elim s [
   | inl formed ↦ inl (forms ∙ formed.0, formed.1)
-  | inr told ↦ inr (same ∙ told)
+  | inr told ↦ inr (told.0, told.1, (same ∙ told.2.0, told.2.1))
 ]
 
 expands_as : (front text : List ℕ) → expanded text ≡ expanded front → has_form text ≡ has_form front → (answer : Result (List ℕ) StreamFault) → Expands front answer → Expands text answer

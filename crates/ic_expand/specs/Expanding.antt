@@ -1,20 +1,24 @@
--- The text of the calculus that a text stands for, or that there is none.
-use Rattle.std.specs.Prelude.{◌≡◌, ℕ, ◌==◌, List, [], ◌∷◌, ◌++◌, Bool, true, false, ◌&&◌, ◌||◌, not, Option, None, Some, Result, Ok, Err, filter, length, map, nat_le, if◌then◌else◌}
-use Rattle.std.specs.List.{list_any}
+-- The text of the calculus that a text stands for, or why there is none.
+use Rattle.std.specs.Prelude.{ℕ, ◌+◌, ◌==◌, List, [], ◌∷◌, ◌++◌, Bool, true, false, ◌||◌, Option, None, Some, Result, Ok, Err, filter, length, map, nat_le, if◌then◌else◌}
 use Rattle.std.specs.Str.{bytes_eq}
 use Rattle.ic_text.specs.Token.{is_blank}
-use Rattle.ic_term.specs.Symbol.{Symbol}
-use Rattle.ic_text.specs.declared.fault.TextFault.{TextFault}
-use Rattle.ic_text.specs.declared.fault.TextFault.TheVariants.{Limit, Syntax}
+use Rattle.ic_term.specs.Symbol.{Symbol, is_symbol_text}
+use Rattle.ic_expand.specs.declared.fault.Reason.{Reason}
+use Rattle.ic_expand.specs.declared.fault.Reason.TheVariants.{TextBytes, NoText, NotSymbol, NoSymbol, NoCopier, NoEraser, Again, NoRules, NoEnd}
 use Rattle.ic_expand.specs.declared.fault.ExpandFault.{ExpandFault}
-use Rattle.ic_expand.specs.declared.fault.ExpandFault.TheVariants.{TooLong, Refused, Memory}
+use Rattle.ic_expand.specs.declared.fault.ExpandFault.TheVariants.{Refused}
 use Rattle.ic_expand.specs.declared.limits.TheConstants.{MAX_RICH_TEXT}
 use Rattle.ic_expand.specs.declared.names.Spelling.TheVariants.{Short, Long}
 use Rattle.ic_expand.specs.declared.spot.Kind.{Kind}
+use Rattle.ic_expand.specs.declared.spot.Kind.TheVariants.{Copier, Eraser}
 use Rattle.ic_expand.specs.declared.spot.Spot.{Spot}
 use Rattle.ic_expand.specs.declared.spot.Spot.TheVariants.{Elsewhere, Opening, Asked, Given}
-use Rattle.ic_expand.specs.Pieces.{is_begun, uncommented, first_byte, pieces, after, after_first}
-use Rattle.ic_expand.specs.Reading.{pairs_of, symbols_of, names_of, spare_of, told_word, with_word}
+use Rattle.ic_expand.specs.Begins.{blanks_before, is_begun}
+use Rattle.ic_expand.specs.Comments.{uncommented}
+use Rattle.ic_expand.specs.Pieces.{first_byte, pieces}
+use Rattle.ic_expand.specs.Spots.{after, after_first}
+use Rattle.ic_expand.specs.Reading.{pairs_of, symbols_of}
+use Rattle.ic_expand.specs.Names.{is_among, names_of, spare_of, told_word, with_word}
 use Rattle.ic_expand.specs.Generic.{arity_of, generic_rule, in_row, is_wanted}
 
 -- what a text says of its symbols, of the rules that it gives, and of its names
@@ -62,22 +66,36 @@ abbrev pub arity_in : List Symbol → List ℕ → Option ℕ
 arity_in [] s = None
 arity_in (t ∷ ts) s = if bytes_eq s t.text then Some t.arity else arity_in ts s
 
+-- what is amiss with a piece that no term has
+abbrev pub unknown : List ℕ → Reason
+unknown p = if is_symbol_text p then NoSymbol else NotSymbol
+
+-- what is amiss with a piece that isn't the symbol that is looked for, by how many arguments it has in a term
+abbrev pub lack_of : Kind → List ℕ → Option ℕ → Reason
+lack_of kind p None = unknown p
+lack_of Copier p (Some n) = NoCopier n
+lack_of Eraser p (Some n) = NoEraser n
+
+-- why there are no rules, if there are none: an earlier line is of the same symbol, or none is left
+abbrev pub unless_some : (again : Bool) → List Symbol → Option Reason
+unless_some again [] = Some (if again then Again else NoRules)
+unless_some again (t ∷ ts) = None
+
 -- a generic rule ends with `;` or `}`
 abbrev pub is_end : ℕ → Bool
 is_end b = b == 59 || b == 125
 
--- Whether a piece is refused that is no blank: after `copy` or `erase` one that no copier or eraser has in a term, or
--- for which no rule is left, and then one that ends no rule.
-abbrev pub is_refused_at : Sheet → (earlier : List (List ℕ)) → Spot → List ℕ → Bool
-is_refused_at sheet earlier (Asked kind) p = not (is_for kind (arity_in sheet.symbols p)
-    && list_any (is_wanted sheet.pairs earlier p) sheet.symbols)
-is_refused_at sheet earlier Given p = not (is_end (first_byte p))
-is_refused_at sheet earlier Opening p = false
-is_refused_at sheet earlier Elsewhere p = false
+-- why a piece is refused that is no blank, if it is
+abbrev pub refused_at : Sheet → (earlier : List (List ℕ)) → Spot → List ℕ → Option Reason
+refused_at sheet earlier (Asked kind) p = if is_for kind (arity_in sheet.symbols p)
+    then unless_some (is_among p earlier) (wanted sheet earlier p)
+    else Some (lack_of kind p (arity_in sheet.symbols p))
+refused_at sheet earlier Given p = if is_end (first_byte p) then None else Some NoEnd
+refused_at sheet earlier spot p = None
 
-abbrev pub is_refused : Sheet → (earlier : List (List ℕ)) → Spot → List ℕ → Bool
-is_refused sheet earlier spot p =
-    if is_blank (first_byte p) then false else is_refused_at sheet earlier spot p
+abbrev pub refusal : Sheet → (earlier : List (List ℕ)) → Spot → List ℕ → Option Reason
+refusal sheet earlier spot p = if is_blank (first_byte p) then None
+    else refused_at sheet earlier spot p
 
 -- the copiers and erasers with the one that stands here
 abbrev pub with_generic : List (List ℕ) → Spot → List ℕ → List (List ℕ)
@@ -85,32 +103,35 @@ with_generic earlier (Asked kind) p = if is_blank (first_byte p) then earlier el
 with_generic earlier spot p = earlier
 
 -- a text before what follows, unless that is refused
-abbrev pub before_text : List ℕ → Result (List ℕ) TextFault → Result (List ℕ) TextFault
+abbrev pub before_text : List ℕ → Result (List ℕ) ExpandFault → Result (List ℕ) ExpandFault
 before_text text (Ok rest) = Ok (text ++ rest)
 before_text text (Err fault) = Err fault
 
--- what pieces are written as, from here on
-abbrev pub written : Sheet → (earlier : List (List ℕ)) → Spot → List (List ℕ) → Result (List ℕ) TextFault
-written sheet earlier spot [] = Ok []
-written sheet earlier spot (p ∷ ps) = if is_refused sheet earlier spot p then Err Syntax
-    else before_text (piece_text sheet earlier spot p)
-    (written sheet (with_generic earlier spot p) (after spot p) ps)
+-- a piece before what follows, unless it is refused
+abbrev pub unless_refused : Option Reason → (at : ℕ) → List ℕ → Result (List ℕ) ExpandFault
+    → Result (List ℕ) ExpandFault
+unless_refused (Some reason) at text rest = Err (Refused reason at)
+unless_refused None at text rest = before_text text rest
+
+-- what pieces are written as, from this place on
+abbrev pub written : Sheet → (earlier : List (List ℕ)) → Spot → (at : ℕ) → List (List ℕ)
+    → Result (List ℕ) ExpandFault
+written sheet earlier spot at [] = Ok []
+written sheet earlier spot at (p ∷ ps) =
+    unless_refused (refusal sheet earlier spot p) at (piece_text sheet earlier spot p)
+    (written sheet (with_generic earlier spot p) (after spot p) (at + length p) ps)
 
 -- what the pieces of a text are written as
-abbrev pub written_pieces : List (List ℕ) → Result (List ℕ) TextFault
-written_pieces ps = written (sheet_of ps) [] Elsewhere ps
+abbrev pub written_pieces : List (List ℕ) → Result (List ℕ) ExpandFault
+written_pieces ps = written (sheet_of ps) [] Elsewhere 0 ps
 
 -- the same of a text without comments, unless it begins otherwise than texts do
-abbrev pub body_expanded : List ℕ → Result (List ℕ) TextFault
-body_expanded body = if is_begun body then written_pieces (pieces body) else Err Syntax
+abbrev pub body_expanded : List ℕ → Result (List ℕ) ExpandFault
+body_expanded body = if is_begun body then written_pieces (pieces body)
+    else Err (Refused NoText (blanks_before body))
 
--- The text of the calculus for which a text stands, or by which name it is refused. Why, and where, is tried.
-abbrev pub expanded : List ℕ → Result (List ℕ) TextFault
+-- The text of the calculus for which a text stands, or the first refusal. Its place is one of the text
+-- without its comments.
+abbrev pub expanded : List ℕ → Result (List ℕ) ExpandFault
 expanded text = if nat_le (length text) MAX_RICH_TEXT then body_expanded (uncommented text)
-    else Err Limit
-
--- a text is refused so, unless memory ran out
-abbrev pub IsRefusal : List ℕ → ExpandFault → Type 0
-IsRefusal text TooLong = expanded text ≡ Err Limit
-IsRefusal text (Refused reason at) = expanded text ≡ Err Syntax
-IsRefusal text Memory = Unit {0}
+    else Err (Refused TextBytes MAX_RICH_TEXT)

@@ -6,7 +6,7 @@ use Rattle.ic_text.specs.Name.{name_text}
 use Rattle.ic_term.specs.Symbol.{Symbol, fits_limits}
 use Rattle.ic_expand.specs.declared.spot.Kind.{Kind}
 use Rattle.ic_expand.specs.declared.spot.Kind.TheVariants.{Copier, Eraser}
-use Rattle.ic_expand.specs.Reading.{is_among}
+use Rattle.ic_expand.specs.Names.{is_among}
 
 -- arguments in parentheses, if there are some: `(` stands before the first and `,` before each other
 abbrev pub listed : (sign : ℕ) → List (List ℕ) → List ℕ

@@ -1,10 +1,5 @@
--- Which texts have forms that stand for others, and what a stream is answered whose text is expanded (this project's choice).
--- What forms stand for is tried.
-use Rattle.std.specs.Prelude.{ℕ, ◌==◌, List, [], ◌∷◌, Bool, false, ◌&&◌, ◌||◌, codes, length, nat_le, if◌then◌else◌, ◌≡◌, ◌≤◌, ◌⊎◌, ◌+◌, Option, Ok, Err, true}
-use Rattle.std.specs.Str.{bytes_eq}
-use Rattle.ic_text.specs.Token.{is_blank}
-use Rattle.ic_expand.specs.declared.limits.TheConstants.{MAX_RICH_TEXT}
-use Rattle.ic_expand.specs.Pieces.{uncommented, first_byte, pieces}
+-- What a stream is answered whose text is expanded (this project's choice).
+use Rattle.std.specs.Prelude.{◌≡◌, ◌≤◌, ◌⊎◌, ℕ, ◌+◌, List, Option, Ok, Err, false, true, length}
 use Rattle.std.specs.Io.KnownBytes.{Consumes, IsAtEnd}
 use Rattle.ic_text.specs.declared.fault.TextFault.{TextFault}
 use Rattle.ic_text.specs.declared.fault.TextFault.TheVariants.{Syntax, Limit}
@@ -12,29 +7,28 @@ use Rattle.ic_streams.specs.Streams.{Answering}
 use Rattle.ic_streams.specs.declared.fault.StreamFault.{StreamFault}
 use Rattle.ic_streams.specs.declared.fault.StreamFault.TheVariants.{Read, Text, Round, Memory, Write}
 use Rattle.ic_expand.specs.Expanding.{expanded}
+use Rattle.ic_expand.specs.Forms.{has_form}
+use Rattle.ic_expand.specs.declared.fault.Reason.{Reason}
+use Rattle.ic_expand.specs.declared.fault.Reason.TheVariants.{TextBytes, NoText, NotSymbol, NoSymbol, NoCopier, NoEraser, Again, NoRules, NoEnd}
+use Rattle.ic_expand.specs.declared.fault.ExpandFault.TheVariants.{Refused}
+use Rattle.ic_expand.specs.declared.limits.TheConstants.{MAX_RICH_TEXT}
 
--- two marks that stand so in forms alone, with or without blanks between: `=>`, and `;}` and `,>` at an end
-abbrev pub are_form : (before : ℕ) → ℕ → Bool
-are_form before b = (before == 61 && b == 62) || (before == 59 && b == 125) || (before == 44 && b == 62)
+-- the fault of a text that is refused
+abbrev pub text_fault : Reason → TextFault
+text_fault TextBytes = Limit
+text_fault NoText = Syntax
+text_fault NotSymbol = Syntax
+text_fault NoSymbol = Syntax
+text_fault (NoCopier n) = Syntax
+text_fault (NoEraser n) = Syntax
+text_fault Again = Syntax
+text_fault NoRules = Syntax
+text_fault NoEnd = Syntax
 
--- the marks and words of forms: of lists and powers, of declarations, and of terms with names
-abbrev pub is_form : List ℕ → Bool
-is_form p = bytes_eq p (codes "[") || bytes_eq p (codes "^") || bytes_eq p (codes "number")
-    || bytes_eq p (codes "list") || bytes_eq p (codes "pair") || bytes_eq p (codes "let")
-
--- the byte that stands before what follows a piece, blanks apart
-abbrev pub after_piece : (before : ℕ) → List ℕ → ℕ
-after_piece before p = if is_blank (first_byte p) then before else first_byte p
-
--- whether pieces have a form
-abbrev pub have_form : (before : ℕ) → List (List ℕ) → Bool
-have_form before [] = false
-have_form before (p ∷ ps) = are_form before (first_byte p) || is_form p
-    || have_form (after_piece before p) ps
-
--- whether a text that isn't too long has a form, outside its comments
-abbrev pub has_form : List ℕ → Bool
-has_form text = nat_le (length text) MAX_RICH_TEXT && have_form 0 (pieces (uncommented text))
+-- a text is refused with this fault, for this reason, at this place
+abbrev pub IsRefusedAs : List ℕ → TextFault → Reason → ℕ → Type 0
+IsRefusedAs input fault reason at =
+    (expanded input ≡ Err (Refused reason at)) × (fault ≡ text_fault reason)
 
 -- a text is written as what is expanded of it, or where it has forms, of some text
 abbrev pub IsWrittenAs : List ℕ → List ℕ → Type 0
@@ -44,7 +38,7 @@ IsWrittenAs input output =
 -- it is refused as its expansion is, or where it has forms, perhaps for one of them
 abbrev pub IsRefusedWith : List ℕ → TextFault → Type 0
 IsRefusedWith input fault = ((has_form input ≡ true) × ((fault ≡ Syntax) ⊎ (fault ≡ Limit)))
-    ⊎ (expanded input ≡ Err fault)
+    ⊎ ((reason : Reason) × (at : ℕ) × IsRefusedAs input fault reason at)
 
 -- the answers of expanding
 abbrev pub Expands : Answering

@@ -1,7 +1,7 @@
 //! With what a text begins.
 
 ghost use Rattle.std.specs.Prelude.{◌≡◌, ◌≤◌, length};
-ghost use Rattle.ic_expand.specs.Pieces.{begins, blanks_before};
+ghost use Rattle.ic_expand.specs.Begins.{begins, blanks_before};
 
 use ic_text::is_blank;
 

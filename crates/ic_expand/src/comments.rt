@@ -1,7 +1,7 @@
 //! A text without its comments.
 
 ghost use Rattle.std.specs.Prelude.{◌≡◌, IfOk};
-ghost use Rattle.ic_expand.specs.Pieces.{is_commented, uncommented};
+ghost use Rattle.ic_expand.specs.Comments.{is_commented, uncommented};
 
 use std::alloc::{AllocError, Global};
 

@@ -8,6 +8,8 @@ use std::alloc::{AllocError, AllocFailed};
 /// Why a text is refused.
 #[derive(Clone, Copy, Debug, PartialEq, Eq)]
 pub enum Reason {
+    /// It has too many bytes.
+    TextBytes,
     /// It begins neither with `{` nor with `<`.
     NoText,
     /// After `copy` or `erase` no symbol stands.
@@ -29,8 +31,6 @@ pub enum Reason {
 /// Why a text isn't expanded.
 #[derive(Clone, Copy, Debug, PartialEq, Eq)]
 pub enum ExpandFault {
-    /// It has too many bytes.
-    TooLong,
     /// It is refused, at this place of the text without its comments.
     Refused(Reason, usize),
     /// A growth was refused.

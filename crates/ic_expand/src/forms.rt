@@ -1,7 +1,7 @@
 //! Whether a text has forms that stand for others.
 
 ghost use Rattle.std.specs.Prelude.{◌≡◌, IfOk};
-ghost use Rattle.ic_expand.specs.Streams.{after_piece, are_form, has_form, have_form, is_form};
+ghost use Rattle.ic_expand.specs.Forms.{after_piece, are_form, has_form, have_form, is_form};
 ghost use Rattle.ic_expand.specs.Pieces.{pieces};
 
 use crate::comments::without_comments;

@@ -1,6 +1,6 @@
 //! What is proved of the definitions alone: each law is the contract of a function that does nothing.
 
-ghost use Rattle.std.specs.Prelude.{◌≡◌, ◌<◌, ◌≤◌, ◌+◌, ◌==◌, ℕ, List, [], ◌∷◌, ◌++◌, Contains, Option, Result, Ok, Err, false, true, codes, length};
+ghost use Rattle.std.specs.Prelude.{◌≡◌, ◌≢◌, ◌<◌, ◌≤◌, ◌+◌, ◌==◌, ℕ, List, [], ◌∷◌, ◌++◌, Contains, Option, Result, Ok, Err, false, true, codes, length};
 ghost use Rattle.std.specs.Io.KnownBytes.{Consumes, IsAtEnd};
 ghost use Rattle.std.specs.List.{concat, list_any, AllByRecursion};
 ghost use Rattle.ic_streams.specs.declared.fault.StreamFault.{StreamFault};
@@ -10,14 +10,20 @@ ghost use Rattle.ic_text.specs.declared.fault.TextFault.TheVariants.{Limit, Synt
 ghost use Rattle.ic_expand.specs.declared.limits.TheConstants.{MAX_RICH_TEXT};
 ghost use Rattle.ic_expand.specs.declared.names.Spelling.{Spelling};
 ghost use Rattle.ic_expand.specs.declared.names.Spelling.TheVariants.{Short, Long};
+ghost use Rattle.ic_expand.specs.declared.fault.ExpandFault.TheVariants.{Refused};
+ghost use Rattle.ic_expand.specs.declared.fault.Reason.{Reason};
+ghost use Rattle.ic_expand.specs.declared.fault.Reason.TheVariants.{Again, NoCopier, NoEnd, NoEraser, NoRules, NoSymbol, NoText, NotSymbol, TextBytes};
 ghost use Rattle.ic_expand.specs.declared.spot.Kind.{Kind};
 ghost use Rattle.ic_expand.specs.declared.spot.Spot.TheVariants.{Elsewhere};
-ghost use Rattle.ic_expand.specs.Pieces.{is_begun, uncommented, pieces};
-ghost use Rattle.ic_expand.specs.Reading.{IsRenaming, is_among, is_spelt, names, names_of, spare_of, told_word};
+ghost use Rattle.ic_expand.specs.Begins.{is_begun};
+ghost use Rattle.ic_expand.specs.Comments.{uncommented};
+ghost use Rattle.ic_expand.specs.Pieces.{pieces};
+ghost use Rattle.ic_expand.specs.Names.{IsRenaming, is_among, is_spelt, names, names_of, spare_of, told_word};
 ghost use Rattle.ic_term.specs.Symbol.{Symbol, fits_limits};
 ghost use Rattle.ic_expand.specs.Generic.{agent_text, annihilated, copied, erased, generic_rule, is_of, rule_text};
 ghost use Rattle.ic_expand.specs.Expanding.{Sheet, expanded, rules_of};
-ghost use Rattle.ic_expand.specs.Streams.{has_form, Expands, TakesAt, TakesWhole};
+ghost use Rattle.ic_expand.specs.Forms.{has_form};
+ghost use Rattle.ic_expand.specs.Streams.{Expands, TakesAt, TakesWhole, text_fault};
 
 /// A comment is `#` and what follows it in its line. The end of the line stays, so that a text has its lines, and texts
 /// that differ in their comments alone mean the same.
@@ -66,6 +72,12 @@ pub fn generic_rules_keep_arities()
         × (erased s t ≡ rule_text (agent_text s []) (agent_text t.text zs)) }
 {}
 
+/// A word after `copy` that is no symbol is told to be none, and a symbol to stand in no term.
+pub fn words_and_unknown_symbols_are_told_apart()
+    ensures word { expanded (codes "{ copy dup }") ≡ Err (Refused NotSymbol 7) }
+    ensures symbol { expanded (codes "{ copy Dup }") ≡ Err (Refused NoSymbol 7) }
+{}
+
 /// A text with each of these, and what it is written as.
 pub fn one_text_is_written_so()
     ensures written { expanded (codes "{ copy D; erase E } < one, 2 | D(one,E) = 2 > # once")
@@ -83,22 +95,21 @@ pub fn arguments_are_copied_in_their_order()
         ++ codes "D(Q(a),Q(a1))><Q(D(a,a1));  E><R;E><P(E,E);E><E;E><Q(E) } <|P(a,b)=D(a,b),E=Q(c),c=R>") }
 {}
 
-/// Each refusal by a text that has it: a symbol with other arguments, one for which no rule is left, a generic rule that goes
-/// on, a word that is no symbol or stands in no term, a line, and a text that is too long.
+/// Each refusal by a text that has it. The place is that of the symbol after `copy` or `erase`, of what follows it, or of what
+/// stands first. A text that is too long is refused at its first byte too many.
 pub fn refusals_by_hand()
-    ensures copier { expanded (codes "{ copy A } <|A(x,y,z)=B>") ≡ Err Syntax }
-    ensures eraser { expanded (codes "{ erase A } <|A(x,y)=B>") ≡ Err Syntax }
-    ensures twice { expanded (codes "{ copy D; copy D } <|D(x,y)=B>") ≡ Err Syntax }
-    ensures given { expanded (codes "{ E><E; erase E } <|E=E>") ≡ Err Syntax }
-    ensures later { expanded (codes "{ erase E; E><E } <|E=E>") ≡ Err Syntax }
+    ensures copier { expanded (codes "{ copy A } <|A(x,y,z)=B>") ≡ Err (Refused (NoCopier 3) 7) }
+    ensures eraser { expanded (codes "{ erase A } <|A(x,y)=B>") ≡ Err (Refused (NoEraser 2) 8) }
+    ensures twice { expanded (codes "{ copy D; copy D } <|D(x,y)=B>") ≡ Err (Refused Again 15) }
+    ensures given { expanded (codes "{ E><E; erase E } <|E=E>") ≡ Err (Refused NoRules 14) }
+    ensures later { expanded (codes "{ erase E; E><E } <|E=E>") ≡ Err (Refused NoRules 8) }
     ensures stood_for { expanded (codes "{ erase E; D(a,b)><D(a,b); copy D } <|D(x,y)=E>")
-        ≡ Err Syntax }
-    ensures unended { expanded (codes "{ copy D E><F } <|D(x,y)=E>") ≡ Err Syntax }
-    ensures unknown { expanded (codes "{ # two\n copy Dup }") ≡ Err Syntax }
-    ensures word { expanded (codes "{ copy dup }") ≡ Err Syntax }
-    ensures line { expanded (codes " submit a {} <|>") ≡ Err Syntax }
+        ≡ Err (Refused NoRules 32) }
+    ensures unended { expanded (codes "{ copy D E><F } <|D(x,y)=E>") ≡ Err (Refused NoEnd 9) }
+    ensures unknown { expanded (codes "{ # two\n copy Dup }") ≡ Err (Refused NoSymbol 9) }
+    ensures line { expanded (codes " submit a {} <|>") ≡ Err (Refused NoText 1) }
     ensures long { (text : List ℕ) → MAX_RICH_TEXT < length text
-        → expanded text ≡ Err Limit }
+        → expanded text ≡ Err (Refused TextBytes MAX_RICH_TEXT) }
 {}
 
 /// Arguments of arguments aren't counted: here P has two, and R one. A blank may stand before them.
@@ -125,7 +136,9 @@ pub fn what_is_answered_is_what_is_expanded()
     ensures written { (text output : List ℕ) → has_form text ≡ false → Expands text (Ok output)
         → expanded text ≡ Ok output }
     ensures refused { (text : List ℕ) (fault : TextFault) → has_form text ≡ false
-        → Expands text (Err (Text fault)) → expanded text ≡ Err fault }
+        → Expands text (Err (Text fault))
+        → (reason : Reason) × (at : ℕ) × (expanded text ≡ Err (Refused reason at))
+        × (fault ≡ text_fault reason) }
     ensures one { (text : List ℕ) (one other : Result (List ℕ) StreamFault) → has_form text ≡ false
         → Expands text one → Expands text other → one ≡ other }
     ensures formed { (text output : List ℕ) → Expands text (Ok output)
@@ -133,6 +146,8 @@ pub fn what_is_answered_is_what_is_expanded()
     ensures forms { has_form (codes "{A><B=>}") ≡ true }
     ensures separator { has_form (codes "{A><B ; } <|>") ≡ true }
     ensures formless { has_form (codes "{copy D;A><B} <a,a|D(x,y)=B> # =>") ≡ false }
+    ensures limit { text_fault TextBytes ≡ Limit }
+    ensures syntax { (reason : Reason) → reason ≢ TextBytes → text_fault reason ≡ Syntax }
 {}
 
 /// A text that is answered or refused was taken from its reader: all that it had, or one byte more than a text may have. At any

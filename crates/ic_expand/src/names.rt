@@ -4,7 +4,7 @@ ghost use Rattle.std.specs.Prelude.{◌≡◌, ◌++◌, IfOk, OnOk};
 ghost use Rattle.std.specs.List.{list_all};
 ghost use Rattle.ic_text.specs.Name.{is_name, name_text};
 ghost use Rattle.ic_expand.specs.Pieces.{pieces};
-ghost use Rattle.ic_expand.specs.Reading.{is_name_byte, is_named, is_rich_name, is_among, is_spelt, names_of, spare_of, told_word};
+ghost use Rattle.ic_expand.specs.Names.{is_name_byte, is_named, is_rich_name, is_among, is_spelt, names_of, spare_of, told_word};
 
 use crate::pieces::split_piece;
 use crate::spot::Spot;

@@ -1,7 +1,7 @@
 //! Where in its rules a text is, piece by piece.
 
 ghost use Rattle.std.specs.Prelude.{◌≡◌};
-ghost use Rattle.ic_expand.specs.Pieces.{after, after_first, after_other, opens_rule};
+ghost use Rattle.ic_expand.specs.Spots.{after, after_first, after_other, opens_rule};
 
 use crate::pieces::first_byte;
 use ic_text::is_blank;

@@ -5,7 +5,8 @@ ghost use Rattle.std.specs.Io.KnownBytes.{Keeps};
 ghost use Rattle.ic_streams.specs.Streams.{FaultOf, IsAnswered, OfText};
 ghost use Rattle.ic_text.specs.declared.fault.TextFault.TheVariants.{Syntax, Limit};
 ghost use Rattle.ic_expand.specs.Expanding.{expanded};
-ghost use Rattle.ic_expand.specs.Streams.{has_form, Expands, TakesAt, TakesSome, TakesText, TakesWhole};
+ghost use Rattle.ic_expand.specs.Forms.{has_form};
+ghost use Rattle.ic_expand.specs.Streams.{Expands, TakesAt, TakesSome, TakesText, TakesWhole, text_fault};
 ghost use Rattle.ic_streams.specs.declared.fault.StreamFault.TheVariants.{Text};
 
 use crate::comments::without_comments;
@@ -133,14 +134,10 @@ fn unfolded_text(
     match expand(alloc, written.text()) {
         Ok(out) => Ok(out),
         Err(ExpandFault::Memory) => Err(StreamFault::Memory),
-        Err(ExpandFault::TooLong) => {
-            let place = written.place_of(MAX_RICH_TEXT);
-            Err(told_fault(alloc, body, place, TEXT_BYTES, TextFault::Limit, told))
-        }
         Err(ExpandFault::Refused(reason, at)) => {
             let sentence = reason_sentence(alloc, reason)?;
             let place = written.place_of(at);
-            Err(told_fault(alloc, body, place, &sentence, TextFault::Syntax, told))
+            Err(told_fault(alloc, body, place, &sentence, text_fault(reason), told))
         }
     }
 }
@@ -177,27 +174,47 @@ fn formless_text(alloc: Global, text: &[u8], told: &mut Vec<u8>) -> Result<Vec<u
     match expand(alloc, text) {
         Ok(out) => Ok(out),
         Err(ExpandFault::Memory) => Err(StreamFault::Memory),
-        Err(ExpandFault::TooLong) => {
-            Err(told_fault(
-                alloc,
-                text,
-                MAX_RICH_TEXT,
-                TEXT_BYTES,
-                TextFault::Limit,
-                told,
-            ))
-        }
-        // The place in the text without comments is on the same line and in the same column as in the text.
-        Err(ExpandFault::Refused(reason, at)) => {
-            let sentence = reason_sentence(alloc, reason)?;
-            let body = without_comments(alloc, text)?;
-            Err(told_fault(alloc, &body, at, &sentence, TextFault::Syntax, told))
-        }
+        Err(ExpandFault::Refused(reason, at)) => Err(refused(alloc, text, reason, at, told)),
     }
 }
 
-/// What is said of a text that is too long.
-const TEXT_BYTES: &[u8] = b"a text has at most 16777216 bytes";
+/// The fault of a stream whose text is refused, of which `told` gets the lines. Where memory ran out it gets nothing.
+fn refused(alloc: Global, text: &[u8], reason: Reason, at: usize, told: &mut Vec<u8>) -> StreamFault
+    ensures fault { (result ≡ StreamFault.Memory) ⊎ (result ≡ Text (text_fault reason)) }
+{
+    match refusal_lines(alloc, text, reason, at) {
+        Ok(lines) => match told.extend_from_slice(&lines) {
+            Ok(()) => StreamFault::Text(text_fault(reason)),
+            Err(_) => StreamFault::Memory,
+        },
+        Err(_) => StreamFault::Memory,
+    }
+}
+
+/// The lines that tell of a refusal: its place in the text without comments, which is on the same line and in the same
+/// column as in the text.
+fn refusal_lines(
+    alloc: Global,
+    text: &[u8],
+    reason: Reason,
+    at: usize,
+) -> Result<Vec<u8>, AllocError> {
+    let sentence = reason_sentence(alloc, reason)?;
+    match reason {
+        Reason::TextBytes => place_lines(alloc, text, at, &sentence),
+        Reason::NoText
+        | Reason::NotSymbol
+        | Reason::NoSymbol
+        | Reason::NoCopier(_)
+        | Reason::NoEraser(_)
+        | Reason::Again
+        | Reason::NoRules
+        | Reason::NoEnd => {
+            let body = without_comments(alloc, text)?;
+            place_lines(alloc, &body, at, &sentence)
+        }
+    }
+}
 
 /// What is said before the number of arguments of a symbol that is no copier.
 const COPIERS: &[u8] = b"copy needs a symbol with two arguments, and this one has ";
@@ -219,6 +236,7 @@ const FIRST: &[u8] = b" where it stands first";
 /// What is amiss at the place of a refusal.
 fn reason_sentence(alloc: Global, reason: Reason) -> Result<Vec<u8>, AllocError> {
     match reason {
+        Reason::TextBytes => Vec::from_slice(alloc, b"a text has at most 16777216 bytes"),
         Reason::NoText => {
             Vec::from_slice(
                 alloc,
@@ -246,4 +264,21 @@ fn counted(alloc: Global, words: &[u8], count: usize) -> Result<Vec<u8>, AllocEr
     sentence.extend_from_slice(count.to_string(alloc)?.as_bytes())?;
     sentence.extend_from_slice(FIRST)?;
     Ok(sentence)
+}
+
+/// The fault of a text that is refused.
+fn text_fault(reason: Reason) -> TextFault
+    ensures { result ≡ text_fault reason }
+{
+    match reason {
+        Reason::TextBytes => TextFault::Limit,
+        Reason::NoText
+        | Reason::NotSymbol
+        | Reason::NoSymbol
+        | Reason::NoCopier(_)
+        | Reason::NoEraser(_)
+        | Reason::Again
+        | Reason::NoRules
+        | Reason::NoEnd => TextFault::Syntax,
+    }
 }

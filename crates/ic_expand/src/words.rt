@@ -3,7 +3,7 @@
 ghost use Rattle.std.specs.Prelude.{◌≡◌, ◌<◌, ◌^◌, [], length, OnOk};
 ghost use Rattle.std.specs.List.{position};
 ghost use Rattle.std.specs.Str.{bytes_eq};
-ghost use Rattle.ic_expand.specs.Reading.{is_among, with_word};
+ghost use Rattle.ic_expand.specs.Names.{is_among, with_word};
 
 use std::alloc::{AllocError, Global};
 use std::collections::BTreeMap;

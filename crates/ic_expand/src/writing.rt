@@ -1,12 +1,12 @@
 //! Writing the text of the calculus for which a text stands.
 
-ghost use Rattle.std.specs.Prelude.{◌≡◌, ◌≢◌, ◌++◌, true, false, not, is_some, IfErr, IfOk, OnOk, Ok, Err};
-ghost use Rattle.std.specs.List.{list_any};
-ghost use Rattle.ic_text.specs.declared.fault.TextFault.TheVariants.{Syntax};
-ghost use Rattle.ic_expand.specs.Generic.{in_row, is_wanted};
-ghost use Rattle.ic_expand.specs.Pieces.{after_first, pieces};
-ghost use Rattle.ic_expand.specs.Expanding.{IsRefusal, arity_in, expanded, is_for, is_refused, is_refused_at, kept_word, piece_text, rules_of, sheet_of, with_generic, written_pieces};
+ghost use Rattle.std.specs.Prelude.{◌≡◌, ◌≢◌, ◌++◌, true, is_some, None, IfErr, IfOk, OnOk, Ok, Err};
+ghost use Rattle.ic_expand.specs.Generic.{in_row};
+ghost use Rattle.ic_expand.specs.Names.{is_among};
+ghost use Rattle.ic_expand.specs.Spots.{after_first};
+ghost use Rattle.ic_expand.specs.Expanding.{arity_in, expanded, is_for, kept_word, lack_of, piece_text, refusal, refused_at, rules_of, sheet_of, unknown, unless_some, wanted, with_generic, written_pieces};
 ghost use Rattle.ic_expand.specs.declared.spot.Spot.TheVariants.{Asked};
+ghost use Rattle.ic_expand.specs.Pieces.{pieces};
 ghost use Rattle.ic_expand.specs.inner.Sheets.{IsSheet, sheet_in};
 
 use crate::agents::put_in_row;
@@ -37,7 +37,9 @@ pub(crate) struct Sheet<'a> {
 }
 
 /// What is amiss with a piece that no term has.
-fn unknown(piece: &[u8]) -> Reason {
+fn unknown(piece: &[u8]) -> Reason
+    ensures { result ≡ unknown piece.now }
+{
     if is_symbol(piece) {
         Reason::NoSymbol
     } else {
@@ -56,7 +58,9 @@ fn is_for(kind: Kind, arity: Option<usize>) -> bool
 }
 
 /// What is amiss with a piece that isn't the symbol that is looked for, by how many arguments it has in a term.
-fn lack_of(kind: Kind, piece: &[u8], arity: Option<usize>) -> Reason {
+fn lack_of(kind: Kind, piece: &[u8], arity: Option<usize>) -> Reason
+    ensures { result ≡ lack_of kind piece.now arity }
+{
     match (kind, arity) {
         (Kind::Copier, Some(count)) => Reason::NoCopier(count),
         (Kind::Eraser, Some(count)) => Reason::NoEraser(count),
@@ -99,9 +103,8 @@ impl<'a> Sheet<'a> {
     fn lacks_rules(&self, earlier: &Words, generic: &[u8]) -> Option<Reason>
         requires sheet { IsSheet self.now }
         requires known { is_some (arity_in (sheet_in self.now).symbols generic.now) ≡ true }
-        ensures { is_some result ≡ not (list_any
-            (is_wanted (sheet_in self.now).pairs earlier.now generic.now)
-            (sheet_in self.now).symbols) }
+        ensures { result ≡ unless_some (is_among generic.now earlier.now)
+            (wanted (sheet_in self.now) earlier.now generic.now) }
     {
         if earlier.has(generic) {
             return Some(Reason::Again);
@@ -121,8 +124,7 @@ impl<'a> Sheet<'a> {
     /// Why the symbol after `copy` or `erase` is refused, if it is.
     fn refused_symbol(&self, earlier: &Words, kind: Kind, piece: &[u8]) -> Option<Reason>
         requires { IsSheet self.now }
-        ensures { is_some result
-            ≡ is_refused_at (sheet_in self.now) earlier.now (Asked kind) piece.now }
+        ensures { result ≡ refused_at (sheet_in self.now) earlier.now (Asked kind) piece.now }
     {
         let arity = self.arity_in(piece);
         if is_for(kind, arity) {
@@ -135,7 +137,7 @@ impl<'a> Sheet<'a> {
     /// Why a piece is refused, if it is.
     fn refusal(&self, earlier: &Words, spot: Spot, piece: &[u8]) -> Option<Reason>
         requires { IsSheet self.now }
-        ensures { is_some result ≡ is_refused (sheet_in self.now) earlier.now spot piece.now }
+        ensures { result ≡ refusal (sheet_in self.now) earlier.now spot piece.now }
     {
         let first = first_byte(piece);
         if is_blank(first) {
@@ -159,8 +161,7 @@ impl<'a> Sheet<'a> {
         out: &mut Vec<u8>,
     ) -> Result<(), AllocError>
         requires sheet { IsSheet self.now }
-        requires asked { is_refused_at (sheet_in self.now) earlier.now (Asked kind)
-            generic.now ≡ false }
+        requires asked { refused_at (sheet_in self.now) earlier.now (Asked kind) generic.now ≡ None }
         ensures { OnOk result (out.new.items ≡ out.old.items
             ++ in_row true (rules_of (sheet_in self.now) earlier.now kind generic.now)) }
     {
@@ -183,7 +184,7 @@ impl<'a> Sheet<'a> {
         out: &mut Vec<u8>,
     ) -> Result<(), AllocError>
         requires sheet { IsSheet self.now }
-        requires fine { is_refused (sheet_in self.now) earlier.now spot piece.now ≡ false }
+        requires fine { refusal (sheet_in self.now) earlier.now spot piece.now ≡ None }
         ensures { OnOk result (out.new.items
             ≡ out.old.items ++ piece_text (sheet_in self.now) earlier.now spot piece.now) }
     {
@@ -226,8 +227,7 @@ fn add_generic<'a>(earlier: &mut Words<'a>, spot: Spot, piece: &'a [u8]) -> Resu
 fn written_pieces(alloc: Global, text: &[u8]) -> Result<Vec<u8>, ExpandFault>
     ensures written { IfOk result (λ out. written_pieces (pieces text.now) ≡ Ok out.items) }
     ensures refused { IfErr result (λ fault. fault ≢ ExpandFault.Memory
-        → written_pieces (pieces text.now) ≡ Err Syntax) }
-    ensures short { IfErr result (λ fault. fault ≢ ExpandFault.TooLong) }
+        → written_pieces (pieces text.now) ≡ Err fault) }
 {
     let sheet = Sheet::new(alloc, text)?;
     let mut out = Vec::with_capacity(alloc, text.len())?;
@@ -248,14 +248,15 @@ fn written_pieces(alloc: Global, text: &[u8]) -> Result<Vec<u8>, ExpandFault>
     Ok(out)
 }
 
-/// The text of the calculus for which a text stands. Why one is refused, and where, is tried. It takes a number of steps that grows as n log n, where n is the number
+/// The text of the calculus for which a text stands. It takes a number of steps that grows as n log n, where n is the number
 /// of bytes that are read and written.
 pub fn expand(alloc: Global, text: &[u8]) -> Result<Vec<u8>, ExpandFault>
     ensures written { IfOk result (λ out. expanded text.now ≡ Ok out.items) }
-    ensures refused { IfErr result (IsRefusal text.now) }
+    ensures refused { IfErr result (λ fault. fault ≢ ExpandFault.Memory
+        → expanded text.now ≡ Err fault) }
 {
     if text.len() > MAX_RICH_TEXT {
-        return Err(ExpandFault::TooLong);
+        return Err(ExpandFault::Refused(Reason::TextBytes, MAX_RICH_TEXT));
     }
     let body = without_comments(alloc, text)?;
     let at = blanks_before(&body);

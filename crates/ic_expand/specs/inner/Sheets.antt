@@ -7,7 +7,7 @@ use Rattle.ic_term.specs.Symbol.{Symbol, fits_limits, texts}
 use Rattle.ic_expand.specs.declared.reading.Use.{Use}
 use Rattle.ic_expand.specs.declared.writing.Sheet.{Sheet as Found}
 use Rattle.ic_expand.specs.Pieces.{pieces}
-use Rattle.ic_expand.specs.Reading.{is_among}
+use Rattle.ic_expand.specs.Names.{is_among}
 use Rattle.ic_expand.specs.Expanding.{Sheet, sheet_of}
 use Rattle.ic_expand.specs.inner.Given.{AreGiven, place_cmp}
 

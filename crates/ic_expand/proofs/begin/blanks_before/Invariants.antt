@@ -1,5 +1,5 @@
 use Rattle.std.proofs.Common.{◌≡◌, ◌+◌, drop}
-use Rattle.ic_expand.specs.Pieces.{blanks_before}
+use Rattle.ic_expand.specs.Begins.{blanks_before}
 use Rattle.ic_expand.proofs.begin.blanks_before.Given as goal
 
 -- the blanks so far, and those of what is left

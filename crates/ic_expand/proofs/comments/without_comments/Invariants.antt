@@ -1,5 +1,5 @@
 use Rattle.std.proofs.Common.{◌≡◌, ◌++◌, drop}
-use Rattle.ic_expand.specs.Pieces.{uncommented, uncommented_from}
+use Rattle.ic_expand.specs.Comments.{uncommented, uncommented_from}
 use Rattle.ic_expand.proofs.comments.without_comments.Given as goal
 
 -- what is kept so far, and what will be of the rest, is what is kept of all

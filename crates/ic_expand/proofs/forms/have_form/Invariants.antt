@@ -1,5 +1,5 @@
 use Rattle.std.proofs.Common.{◌≡◌, length}
-use Rattle.ic_expand.specs.Streams.{have_form}
+use Rattle.ic_expand.specs.Forms.{have_form}
 use Rattle.ic_expand.specs.Pieces.{pieces}
 use Rattle.ic_expand.proofs.forms.have_form.Given as goal
 

@@ -1,8 +1,9 @@
 use Rattle.std.proofs.Common.{◌≡◌, ◌<◌, ℕ, List, Bool, Err, cond, ap, refl, length}
 use Rattle.std.proofs.lemmas.Bool.{lt-leb}
-use Rattle.ic_text.specs.declared.fault.TextFault.TheVariants.{Limit}
+use Rattle.ic_expand.specs.declared.fault.ExpandFault.TheVariants.{Refused}
+use Rattle.ic_expand.specs.declared.fault.Reason.TheVariants.{TextBytes}
 use Rattle.ic_expand.specs.declared.limits.TheConstants.{MAX_RICH_TEXT}
-use Rattle.ic_expand.specs.Pieces.{uncommented}
+use Rattle.ic_expand.specs.Comments.{uncommented}
 use Rattle.ic_expand.specs.Expanding.{body_expanded, expanded}
 use Rattle.ic_expand.proofs.laws.refusals_by_hand.Goals as goal
 
@@ -30,14 +31,11 @@ returns-clause-unended c = refl
 pub returns-clause-unknown : goal.returns-clause-unknown
 returns-clause-unknown c = refl
 
-pub returns-clause-word : goal.returns-clause-word
-returns-clause-word c = refl
-
 pub returns-clause-line : goal.returns-clause-line
 returns-clause-line c = refl
 
-too_long : (text : List ℕ) → MAX_RICH_TEXT < length text → expanded text ≡ Err Limit
-too_long text long = ap (λ (few : Bool). cond few (body_expanded (uncommented text)) (Err Limit)) (lt-leb (length text) MAX_RICH_TEXT long)
+too_long : (text : List ℕ) → MAX_RICH_TEXT < length text → expanded text ≡ Err (Refused TextBytes MAX_RICH_TEXT)
+too_long text long = ap (λ (few : Bool). cond few (body_expanded (uncommented text)) (Err (Refused TextBytes MAX_RICH_TEXT))) (lt-leb (length text) MAX_RICH_TEXT long)
 
 pub returns-clause-long : goal.returns-clause-long
 returns-clause-long c = too_long

@@ -1,6 +1,6 @@
 use Rattle.std.proofs.Common.{◌≡◌, drop}
 use Rattle.std.specs.List.{list_all}
-use Rattle.ic_expand.specs.Reading.{is_name_byte}
+use Rattle.ic_expand.specs.Names.{is_name_byte}
 use Rattle.ic_expand.proofs.names.are_name_bytes.Given as goal
 
 -- those so far are

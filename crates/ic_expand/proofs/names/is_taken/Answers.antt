@@ -1,6 +1,6 @@
 use Rattle.std.proofs.Common.{◌∙◌, ◌++◌, List, ℕ, ap}
 use Rattle.ic_text.specs.Name.{name_text}
-use Rattle.ic_expand.specs.Reading.{is_among}
+use Rattle.ic_expand.specs.Names.{is_among}
 use Rattle.ic_expand.proofs.names.is_taken.Goals as goal
 
 pub returns : goal.returns

@@ -1,7 +1,7 @@
 use Rattle.std.proofs.Common.{◌≡◌, length}
 use Rattle.std.specs.List.{fold}
 use Rattle.ic_expand.specs.Pieces.{pieces}
-use Rattle.ic_expand.specs.Reading.{names, names_of, with_word}
+use Rattle.ic_expand.specs.Names.{names, names_of, with_word}
 use Rattle.ic_expand.proofs.names.names_of.Given as goal
 
 -- with what is left the names so far become those of all

@@ -2,7 +2,7 @@ use Rattle.std.proofs.Common.{◌≡◌, ◌∙◌, ◌++◌, List, ℕ, ap, get
 use Rattle.std.specs.Prelude.{OnOk}
 use Rattle.std.proofs.lemmas.Option.{unwrap_or-slice_get}
 use Rattle.ic_text.specs.Name.{name_text}
-use Rattle.ic_expand.specs.Reading.{told_at}
+use Rattle.ic_expand.specs.Names.{told_at}
 use Rattle.ic_expand.proofs.Lists.{at_ok}
 use Rattle.ic_expand.proofs.names.put_word.Goals as goal
 

@@ -1,7 +1,7 @@
 use Rattle.std.proofs.Common.{◌∙◌, ℕ, sym}
 use Rattle.ic_rules.specs.lemmas.Spared.{one_spare, one_taken}
 use Rattle.ic_text.specs.Name.{name_text}
-use Rattle.ic_expand.specs.Reading.{is_among}
+use Rattle.ic_expand.specs.Names.{is_among}
 use Rattle.ic_expand.proofs.names.spare_of.Goals as goal
 use Rattle.ic_expand.proofs.names.spare_of.Goals.{then-not-branch+in_ok-push, else-not-branch}
 

@@ -1,5 +1,5 @@
 use Rattle.std.proofs.Common.{◌≡◌}
-use Rattle.ic_expand.specs.Reading.{spare_numbers}
+use Rattle.ic_expand.specs.Names.{spare_numbers}
 use Rattle.ic_expand.proofs.names.spare_of.Given as goal
 
 -- those of the numbers so far

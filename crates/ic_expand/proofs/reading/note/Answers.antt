@@ -5,7 +5,8 @@ use Rattle.std.proofs.lemmas.Bool.Decides.{nat_tests}
 use Rattle.ic_term.specs.Symbol.{Symbol}
 use Rattle.ic_term.specs.declared.limits.TheConstants.{MAX_WIDE_SYMBOLS}
 use Rattle.ic_expand.specs.declared.reading.Use.{Use}
-use Rattle.ic_expand.specs.Reading.{is_among, is_known, noted}
+use Rattle.ic_expand.specs.Names.{is_among}
+use Rattle.ic_expand.specs.Reading.{is_known, noted}
 use Rattle.ic_expand.specs.inner.Sheets.{symbol_in}
 use Rattle.ic_expand.proofs.Lists.{any-map}
 use Rattle.ic_expand.proofs.reading.note.Goals as goal

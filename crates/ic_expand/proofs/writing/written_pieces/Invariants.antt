@@ -8,7 +8,7 @@ use Rattle.ic_expand.proofs.writing.written_pieces.Given as goal
 abbrev pub invariant-loop-rest : goal.invariant-loop-rest
 invariant-loop-rest l = record {
   shorter : length l.rest ≤ length l.text;
-  all : before_text l.out.items (written (sheet_in l.sheet) l.earlier l.spot (pieces l.rest)) ≡ written_pieces (pieces l.text);
+  all : before_text l.out.items (written (sheet_in l.sheet) l.earlier l.spot (length l.text - length l.rest) (pieces l.rest)) ≡ written_pieces (pieces l.text);
 }
 
 abbrev pub decreases-loop-rest : goal.decreases-loop-rest

@@ -4,7 +4,7 @@ use Rattle.std.specs.Cmp.Lexicographic.{slice_cmp}
 use Rattle.std.specs.Ordering.{nat_cmp}
 use Rattle.std.specs.BTreeMap.{Updates}
 use Rattle.std.proofs.lemmas.List.{length-map, map-append}
-use Rattle.ic_expand.specs.Reading.{is_among}
+use Rattle.ic_expand.specs.Names.{is_among}
 use Rattle.ic_expand.specs.inner.Words.{ArePlaces}
 use Rattle.ic_expand.proofs.Placed.{placed_more}
 use Rattle.ic_expand.proofs.words.Words.add.Goals as goal

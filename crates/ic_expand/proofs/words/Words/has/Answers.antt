@@ -1,6 +1,6 @@
 use Rattle.std.proofs.Common.{◌∙◌, List, ℕ, ap, map}
 use Rattle.std.specs.Borrow.{Bor}
-use Rattle.ic_expand.specs.Reading.{is_among}
+use Rattle.ic_expand.specs.Names.{is_among}
 use Rattle.ic_expand.proofs.Placed.{told_among}
 use Rattle.ic_expand.proofs.words.Words.has.Goals as goal
 

@@ -1,12 +1,12 @@
-use Rattle.std.proofs.Common.{◌∙◌, not, sym, ap}
+use Rattle.std.proofs.Common.{◌≡◌, ◌∙◌, true, false, sym, ap}
 use Rattle.std.specs.List.{list_any, position}
 use Rattle.std.specs.Str.{bytes_eq}
 use Rattle.ic_expand.specs.inner.Sheets.{is_missing, sheet_in}
-use Rattle.ic_expand.proofs.AskedLemmas.{no_place, none_again, wants_any}
+use Rattle.ic_expand.proofs.AskedLemmas.{lack_again, lack_wanted, no_place}
 use Rattle.ic_expand.proofs.writing.Sheet.lacks_rules.Goals as goal
 
 pub returns-then-has : goal.returns-then-has
-returns-then-has c = let sheet = sheet_in c.args.self.now in sym (ap not (none_again sheet.pairs c.args.earlier.now c.args.generic.now (sym c.has.ensures ∙ c.if-has.true) sheet.symbols))
+returns-then-has c = lack_again (sheet_in c.args.self.now) c.args.earlier.now c.args.generic.now (sym c.has.ensures ∙ c.if-has.true)
 
 pub returns-in-None : goal.returns-in-None
 returns-in-None c =
@@ -21,7 +21,7 @@ returns-then-wants_some c =
     let earlier = c.args.earlier.now in
     let at = sym (ap (position (bytes_eq g)) c.requires.sheet.known) ∙ sym c.place.ensures ∙ c.in-Some.is in
     let some = ap (list_any (is_missing s earlier c.in-Some.place)) (sym c.requires.sheet.symbols) ∙ sym c.wants_some.ensures ∙ c.if-wants_some.true in
-    sym (ap not (sym (wants_any s c.requires.sheet earlier g c.in-Some.place at (sym c.has.ensures ∙ c.if-has.false)) ∙ some))
+    lack_wanted s c.requires.sheet earlier g c.in-Some.place at (sym c.has.ensures ∙ c.if-has.false) true some
 
 pub returns-else-wants_some : goal.returns-else-wants_some
 returns-else-wants_some c =
@@ -30,4 +30,4 @@ returns-else-wants_some c =
     let earlier = c.args.earlier.now in
     let at = sym (ap (position (bytes_eq g)) c.requires.sheet.known) ∙ sym c.place.ensures ∙ c.in-Some.is in
     let some = ap (list_any (is_missing s earlier c.in-Some.place)) (sym c.requires.sheet.symbols) ∙ sym c.wants_some.ensures ∙ c.if-wants_some.false in
-    sym (ap not (sym (wants_any s c.requires.sheet earlier g c.in-Some.place at (sym c.has.ensures ∙ c.if-has.false)) ∙ some))
+    lack_wanted s c.requires.sheet earlier g c.in-Some.place at (sym c.has.ensures ∙ c.if-has.false) false some

@@ -1,0 +1,30 @@
+-- Which texts have forms that stand for others (this project's choice). What they stand for is tried.
+use Rattle.std.specs.Prelude.{ℕ, ◌==◌, List, [], ◌∷◌, Bool, false, ◌&&◌, ◌||◌, codes, length, nat_le, if◌then◌else◌}
+use Rattle.std.specs.Str.{bytes_eq}
+use Rattle.ic_text.specs.Token.{is_blank}
+use Rattle.ic_expand.specs.declared.limits.TheConstants.{MAX_RICH_TEXT}
+use Rattle.ic_expand.specs.Comments.{uncommented}
+use Rattle.ic_expand.specs.Pieces.{first_byte, pieces}
+
+-- two marks that stand so in forms alone, with or without blanks between: `=>`, and `;}` and `,>` at an end
+abbrev pub are_form : (before : ℕ) → ℕ → Bool
+are_form before b = (before == 61 && b == 62) || (before == 59 && b == 125) || (before == 44 && b == 62)
+
+-- the marks and words of forms: of lists and powers, of declarations, and of terms with names
+abbrev pub is_form : List ℕ → Bool
+is_form p = bytes_eq p (codes "[") || bytes_eq p (codes "^") || bytes_eq p (codes "number")
+    || bytes_eq p (codes "list") || bytes_eq p (codes "pair") || bytes_eq p (codes "let")
+
+-- the byte that stands before what follows a piece, blanks apart
+abbrev pub after_piece : (before : ℕ) → List ℕ → ℕ
+after_piece before p = if is_blank (first_byte p) then before else first_byte p
+
+-- whether pieces have a form
+abbrev pub have_form : (before : ℕ) → List (List ℕ) → Bool
+have_form before [] = false
+have_form before (p ∷ ps) = are_form before (first_byte p) || is_form p
+    || have_form (after_piece before p) ps
+
+-- whether a text that isn't too long has a form, outside its comments
+abbrev pub has_form : List ℕ → Bool
+has_form text = nat_le (length text) MAX_RICH_TEXT && have_form 0 (pieces (uncommented text))
