@@ -10,4 +10,5 @@ pub mod Renamings
 pub mod Plain
 pub mod GenericLemmas
 pub mod Streaming
+pub mod Fronts
 pub mod RuleLemmas

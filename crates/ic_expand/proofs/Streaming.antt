@@ -83,6 +83,13 @@ of_front Holds law None new front takes h = (front, h)
 of_front Holds law (Some text) None front takes h = absurd takes.0
 of_front Holds law (Some text) (Some rest) front takes h = rw takes.0 (law front rest takes.2 h)
 
+-- a text is expanded as the bytes of it that were taken are
+pub expands_whole : (text seen : List ℕ) (new : Option (List ℕ)) (answer : Result (List ℕ) StreamFault)
+    → TakesWhole seen (Some text) new → Expands seen answer → Expands text answer
+expands_whole text seen new answer takes is =
+    of_front (λ t. Expands t answer)
+    (λ front rest end h. expands_as front (front ++ rest) (front_expanded front rest end) (front_formed front rest end) answer h) (Some text) new seen takes is
+
 module _ {T : Type 0} where
   of_taken : (r : Result T StreamFault) (old new before after : Option (List ℕ)) (front : List ℕ) → TakesWhole front old new
       → IsAnswered Expands front r before after → OfText old (λ text. IsAnswered Expands text r before after)

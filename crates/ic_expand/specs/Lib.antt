@@ -9,4 +9,6 @@ pub mod Generic
 pub mod Expanding
 pub mod Forms
 pub mod Streams
+pub mod Marks
+pub mod Opening
 pub mod inner

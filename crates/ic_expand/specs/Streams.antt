@@ -12,6 +12,8 @@ use Rattle.ic_expand.specs.declared.fault.Reason.{Reason}
 use Rattle.ic_expand.specs.declared.fault.Reason.TheVariants.{TextBytes, NoText, NotSymbol, NoSymbol, NoCopier, NoEraser, Again, NoRules, NoEnd}
 use Rattle.ic_expand.specs.declared.fault.ExpandFault.TheVariants.{Refused}
 use Rattle.ic_expand.specs.declared.limits.TheConstants.{MAX_RICH_TEXT}
+use Rattle.ic_expand.specs.declared.texts.Unexpanded.{Unexpanded}
+use Rattle.ic_expand.specs.declared.texts.Unexpanded.TheVariants as unexpanded
 
 -- the fault of a text that is refused
 abbrev pub text_fault : Reason → TextFault
@@ -39,6 +41,11 @@ IsWrittenAs input output =
 abbrev pub IsRefusedWith : List ℕ → TextFault → Type 0
 IsRefusedWith input fault = ((has_form input ≡ true) × ((fault ≡ Syntax) ⊎ (fault ≡ Limit)))
     ⊎ ((reason : Reason) × (at : ℕ) × IsRefusedAs input fault reason at)
+
+-- a text that isn't expanded is refused so, or memory ran out
+abbrev pub IsCause : List ℕ → Unexpanded → Type 0
+IsCause input (unexpanded.Refused refusal) = IsRefusedWith input refusal.fault
+IsCause input unexpanded.Memory = Unit {0}
 
 -- the answers of expanding
 abbrev pub Expands : Answering

@@ -2,8 +2,9 @@
 //!
 //! A rich text may have comments, names of more than one letter, and lines `copy S` and `erase S` among its rules.
 //! `expand` writes it as a text that `ic_text` reads: without comments, with names of the calculus, and with the rules
-//! of S and each symbol in the place of such a line. `expand_stream` does so over a reader and a writer, and first writes
-//! forms as what they stand for, by `ic_rich`. `laws` says what is proved of the definitions alone.
+//! of S and each symbol in the place of such a line. `expand_text` first writes forms as what they stand for, by `ic_rich`,
+//! and `expand_stream` does so over a reader and a writer. `open_text` gives a word what it reads of a text that may be rich.
+//! `laws` says what is proved of the definitions alone.
 #![tactic(auto)]
 
 mod agents;
@@ -15,17 +16,23 @@ mod forms;
 mod given;
 pub mod laws;
 mod limits;
+mod marks;
 mod names;
+mod opening;
 mod pieces;
 mod reading;
 mod rules;
 mod spot;
 mod stream;
+mod texts;
 mod words;
 mod writing;
 
 pub use fault::{ExpandFault, Reason};
 pub use limits::MAX_RICH_TEXT;
+pub use marks::is_marked;
+pub use opening::{Opened, open_text};
 pub use spot::Kind;
 pub use stream::expand_stream;
+pub use texts::{Refusal, Unexpanded, expand_text};
 pub use writing::expand;
