@@ -32,7 +32,7 @@ PASSED = {
 }
 JOB_NAME = "a job's name has small letters, digits and - only"
 WHOLE_TEXT = "a system is submitted on one line: submit NAME {RULES} <CONFIG>"
-FRONT_COMMENT = "there are no comments; `icserve expand` takes those that begin with # out of a text, and lines for serve have none"
+FRONT_COMMENT = "there are no comments, unless the first line is #rich or --rich is given, and lines for serve have none"
 LINE_COMMENT = "lines have no comments: take this one out"
 READERS = {"system": model.read_system, "configuration": model.read_configuration}
 

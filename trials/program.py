@@ -52,6 +52,9 @@ OF_NETS = [b"icserve: overgrown", b"icserve: table full", b"icserve: memory"]
 # The line of standard error that a serving without `--explain` has at the first line that is answered by `bad`.
 OF_BAD = b"icserve: a line was answered `bad`: serve --explain tells what is wrong in such lines\n"
 
+# What is told after a place in what a rich text is expanded to.
+OF_PLAIN = b"the line is the same in the rich text; `icserve expand` writes it as it is told here\n"
+
 
 def ran_with(command, status, out, err):
     """A run, what it wrote on standard error parted: a line that tells of the disk's file, of a standard stream, of a net,
@@ -64,7 +67,7 @@ def ran_with(command, status, out, err):
     of_disk = (line + feed in OF_DISKS or line.startswith(b"icserve: taken ")) and after.count(b"\n") in (1, 2)
     of_input = line == b"icserve: read" and after.startswith(b"standard input: ") and after.count(b"\n") == 1
     of_output = line == b"icserve: write" and after.startswith(b"standard output: ") and after.count(b"\n") == 1
-    of_text = line.startswith(b"icserve: bad ") and after.startswith(b"line ") and after.count(b"\n") == 4
+    of_text = line.startswith(b"icserve: bad ") and after.startswith(b"line ") and after.removesuffix(OF_PLAIN).count(b"\n") == 4
     of_net = line in OF_NETS and after.startswith(b"interactions ") and after.count(b"\n") in (1, 2)
     of_script = line.startswith(b"icserve: script ") and after.count(b"\n") == 1
     of_job = line.startswith(b"icserve: line ") and after.count(b"\n") == 1

@@ -89,13 +89,13 @@ const WORDS: [Entry; 14] = [
         word: Word::Once,
         name: "once",
         about: "Makes one round of a system, and prints the configuration",
-        arguments: &[Argument::Place(FILE)],
+        arguments: TEXT,
     },
     Entry {
         word: Word::Settle,
         name: "settle",
         about: "Settles a configuration: names that only join two terms are removed",
-        arguments: &[Argument::Place(FILE)],
+        arguments: TEXT,
     },
     Entry {
         word: Word::Check,
@@ -188,6 +188,15 @@ pub const FILE: Place = Place {
     several: false,
     help: "The path of the text; where there is none, or -, standard input is read",
 };
+
+/// Whether the text is rich, whatever it is called and begins with.
+pub const RICH: Flag = Flag {
+    name: "rich",
+    help: "Read a rich text, as one is that begins with #rich, or in a file *.rich",
+};
+
+/// A text that may be rich.
+const TEXT: &[Argument] = &[Argument::Place(FILE), Argument::Flag(RICH)];
 
 /// How many threads make the rounds of several jobs.
 pub const WORKERS: Number = Number {
@@ -309,7 +318,7 @@ pub const RESUME: Text = Text {
     name: "resume",
     shown: "F",
     needed: false,
-    apart: &["limits", "file"],
+    apart: &["limits", "file", "rich"],
     help: "Go on with what is kept in F and F.2, and keep it there",
 };
 
@@ -354,6 +363,7 @@ pub const REDUCERS: Number = Number {
 
 const REDUCE: &[Argument] = &[
     Argument::Place(FILE),
+    Argument::Flag(RICH),
     Argument::Number(STEPS),
     Argument::Number(NODES),
     Argument::Choice(LIMITS),
@@ -398,6 +408,7 @@ pub const SUMS: Flag = Flag {
 
 const TRACE: &[Argument] = &[
     Argument::Place(FILE),
+    Argument::Flag(RICH),
     Argument::Number(TRACED),
     Argument::Number(NODES),
     Argument::Choice(LIMITS),
@@ -416,7 +427,11 @@ pub const DRAWN: Number = Number {
     help: "Make rounds before, and at most N, from 0 to 4611686018427387904",
 };
 
-const DRAW: &[Argument] = &[Argument::Place(FILE), Argument::Number(DRAWN)];
+const DRAW: &[Argument] = &[
+    Argument::Place(FILE),
+    Argument::Flag(RICH),
+    Argument::Number(DRAWN),
+];
 
 /// The paths of the texts of `check`.
 pub const CHECKED: Place = Place {
@@ -441,6 +456,7 @@ pub const STRICT: Flag = Flag {
 
 const CHECK: &[Argument] = &[
     Argument::Place(CHECKED),
+    Argument::Flag(RICH),
     Argument::Choice(REPORT),
     Argument::Flag(SCRIPTS),
     Argument::Flag(STRICT),

@@ -3,7 +3,7 @@ use Rattle.std.proofs.Common.{◌≡◌, ℕ, ◌+◌, ◌<◌, Bool, true, fals
 use Rattle.std.specs.Prelude.{map}
 use Rattle.std.specs.List.{AllZip}
 use Rattle.std.proofs.lemmas.List.{map-append, take_more}
-use Rattle.ic_check.specs.Files.{Content, IsFound, LooksOver, text, script, unread, worse, worst}
+use Rattle.ic_check.specs.Files.{Content, IsFound, LooksOver, text, script, unmeant, unread, worse, worst}
 use Rattle.ic_check.specs.declared.files.Verdict.{Verdict}
 use Rattle.ic_check.specs.declared.files.Verdict.TheVariants.{Fine, Faulty, Unread}
 use Rattle.ic_check.specs.inner.Verdicts.{ContentHasFault, verdict_by}
@@ -38,6 +38,7 @@ found_by (text bytes) true has = has
 found_by (text bytes) false has = has
 found_by (script bytes) true has = has
 found_by (script bytes) false has = has
+found_by unmeant faulty has = absurd has
 found_by unread faulty has = absurd has
 
 module _ (Gives : List ℕ → Content → Type 0) where

@@ -13,15 +13,17 @@ pub record Grows (old new : Option (List ℕ)) : Type 0 where
   pub more : List ℕ
   pub appended : Appends old new more
 
--- what a file gives: a text, a script, or nothing that is looked over
+-- what a file gives: a text, a script, a rich text that is refused, or nothing that is looked over
 pub data Content : Type 0 where
   text : List ℕ → Content
   script : List ℕ → Content
+  unmeant : Content
   unread : Content
 
 abbrev pub content_of : Given → Content
 content_of (given.Text bytes) = text bytes.items
 content_of (given.Script bytes) = script bytes.items
+content_of (given.Refused refused) = unmeant
 content_of (given.Unread why) = unread
 
 -- this is found of what a file gives
@@ -32,6 +34,9 @@ IsFound (text bytes) Unread = ⊥
 IsFound (script bytes) Fine = ScriptHasFault bytes false
 IsFound (script bytes) Faulty = ScriptHasFault bytes true
 IsFound (script bytes) Unread = ⊥
+IsFound unmeant Fine = ⊥
+IsFound unmeant Faulty = Unit {0}
+IsFound unmeant Unread = ⊥
 IsFound unread Fine = ⊥
 IsFound unread Faulty = ⊥
 IsFound unread Unread = Unit {0}

@@ -5,12 +5,22 @@ ghost use Rattle.ic_check.specs.Files.{Content, Grows, LooksOver, content_of, wo
 ghost use Rattle.ic_check.specs.inner.Verdicts.{verdict_by};
 
 use crate::findings::Layout;
-use crate::texts::check_given;
+use crate::texts::{check_given, check_refused};
 use crate::writing::Style;
 use ic_causes::shown_path;
 use ic_streams::StreamFault;
+use ic_text::TextFault;
 use std::alloc::{AllocError, Global};
 use std::io::Write;
+
+/// Why a rich text stands for none: the fault at a place of its text, and what is said of it.
+#[derive(Debug, Drop)]
+pub struct Refused {
+    pub text: Vec<u8>,
+    pub at: usize,
+    pub fault: TextFault,
+    pub words: Vec<u8>,
+}
 
 /// What a file gives.
 #[derive(Debug, Drop)]
@@ -18,6 +28,8 @@ pub enum Given {
     Text(Vec<u8>),
     /// Lines for a client, whatever they begin with.
     Script(Vec<u8>),
+    /// A rich text that stands for none: why.
+    Refused(Refused),
     /// It isn't looked over: the lines that say why.
     Unread(Vec<u8>),
 }
@@ -101,6 +113,10 @@ fn check_file<S: Source, W: Write>(
         Given::Script(text) => {
             let is_faulty = check_given(alloc, style, true, &text, writer)?;
             Ok(verdict_of(is_faulty))
+        }
+        Given::Refused(refused) => {
+            check_refused(alloc, style, refused, writer)?;
+            Ok(Verdict::Faulty)
         }
         Given::Unread(why) => {
             told.extend_from_slice(&why)?;

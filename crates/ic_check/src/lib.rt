@@ -1,7 +1,7 @@
 //! Looking over texts: their faults, each with its place, and what is legal in them and mostly a mistake.
 //!
 //! `check_files` looks over files, one after the other, whatever gives them: systems, configurations, lines for a server,
-//! or scripts. It tells their faults and warnings, in lines or as objects of JSON. `check_line` and `check_script_line`
+//! or scripts, or why a rich text is refused. It tells their faults and warnings, in lines or as objects of JSON. `check_line` and `check_script_line`
 //! tell of one line, and `tell_refusals` tells a session of its lines that a server refuses.
 //!
 //! `find_warnings` answers the warnings of a system: pairs that no rule takes apart, symbols that stand only once, rules that
@@ -26,7 +26,7 @@ mod warnings;
 mod words;
 mod writing;
 
-pub use files::{Given, Source, Verdict, check_files};
+pub use files::{Given, Refused, Source, Verdict, check_files};
 pub use findings::Layout;
 pub use lines::{check_line, check_script_line};
 pub use sessions::tell_refusals;

@@ -13,8 +13,8 @@ use std::alloc::{AllocError, Global};
 
 /// What is told of a comment with which a file begins, be it a text or lines.
 pub(crate) const NO_COMMENTS: &[u8] =
-    b"there are no comments; `icserve expand` takes those that begin with # \
-out of a text, and lines for serve have none";
+    b"there are no comments, unless the first line is #rich or --rich is given, \
+and lines for serve have none";
 
 /// What is told of a run in a script.
 pub(crate) const RUN: &[u8] = b"run isn't for scripts, since runners make the rounds";

@@ -7,6 +7,7 @@ ghost use Rattle.ic_check.specs.Faults.{FormHasFault, HasFault, TextHasFault, fi
 ghost use Rattle.ic_check.specs.Files.{Grows};
 ghost use Rattle.ic_check.specs.inner.Verdicts.{ContentHasFault, content_by};
 
+use crate::files::Refused;
 use crate::findings::Findings;
 use crate::lines::check_lines;
 use crate::places::blanks_before;
@@ -177,4 +178,27 @@ pub(crate) fn check_given<W: Write>(
     let is_faulty = check_bytes(alloc, style, is_script, text, writer)?;
     flush(writer)?;
     Ok(is_faulty)
+}
+
+/// Writes what is told of a rich text that stands for none, and flushes it.
+pub(crate) fn check_refused<W: Write>(
+    alloc: Global,
+    style: Style<'_>,
+    refused: Refused,
+    writer: &mut W,
+) -> Result<(), StreamFault>
+    ensures grows { Grows (W.contents writer.old) (W.contents writer.new) }
+    ensures sort { IfErr result
+        (λ fault. (fault ≡ StreamFault.Memory) ⊎ (fault ≡ StreamFault.Write)) }
+{
+    let Refused {
+        text,
+        at,
+        fault,
+        words,
+    } = refused;
+    let fault = placed(&text, None, at, fault, words);
+    let findings = Findings::of_fault(alloc, fault)?;
+    write_findings(alloc, style, &findings.list, writer)?;
+    flush(writer)
 }

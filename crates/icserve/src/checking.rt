@@ -1,13 +1,16 @@
 //! The program's word `check`: the faults and warnings of the texts in files, on standard output.
 
+use crate::input::{OF_PLAIN, is_rich_path};
 use crate::inspecting::open_to_read;
 use crate::texts::{read_limited, too_long};
 use ic_args::ReportFormat;
 use ic_causes::{NotedInput, NotedOutput, Notes, cause_line};
-use ic_check::{Given, Layout, Source, Verdict, check_files};
+use ic_check::{Given, Layout, Refused, Source, Verdict, check_files};
 use ic_exits::Failure;
+use ic_expand::{Unexpanded, expand_text, is_marked};
 use ic_streams::StreamFault;
 use std::alloc::{AllocError, Global};
+use std::cell::Cell;
 use std::io::{self, BufWriter, Write};
 
 /// What is asked of a check.
@@ -18,6 +21,8 @@ pub(crate) struct Asked {
     pub(crate) is_script: bool,
     /// Whether a warning counts as a fault.
     pub(crate) is_strict: bool,
+    /// Whether the files are rich texts, whatever they are called and begin with.
+    pub(crate) is_rich: bool,
 }
 
 /// Prints the faults and warnings of the files of these paths, in their order and this format, each as it is found; for
@@ -30,8 +35,12 @@ pub(crate) fn check(
     notes: &Notes,
     told: &mut Vec<u8>,
 ) -> Result<(), Failure> {
-    let is_script = asked.is_script;
-    let source = FileSource { rt, is_script };
+    let expanded = Cell::new(false);
+    let source = FileSource {
+        rt,
+        asked,
+        expanded: &expanded,
+    };
     let output = NotedOutput::new(io::writer(rt), notes);
     let Ok(output) = BufWriter::new(rt.alloc(), output) else {
         return Err(Failure::Stream(StreamFault::Memory));
@@ -45,7 +54,11 @@ pub(crate) fn check(
         ReportFormat::Json => Layout::Objects,
     };
     let checked = check_files(rt.alloc(), &source, paths, layout, &mut output, told);
-    match checked.map_err(Failure::Stream)? {
+    let verdict = checked.map_err(Failure::Stream)?;
+    if expanded.get() && output.is_written {
+        let _ = rt.stderr().write_all(OF_PLAIN);
+    }
+    match verdict {
         Verdict::Fine if asked.is_strict && output.is_written => Err(Failure::Faults),
         Verdict::Fine => Ok(()),
         Verdict::Faulty => Err(Failure::Faults),
@@ -77,7 +90,34 @@ impl<W: Write> Write for Watched<W> {
 #[derive(Drop)]
 struct FileSource<'a> {
     rt: &'a HostRuntime,
-    is_script: bool,
+    asked: Asked,
+    /// Whether a rich text was expanded.
+    expanded: &'a Cell<bool>,
+}
+
+impl FileSource<'_> {
+    /// What a file of this path gives that has these bytes.
+    fn given(&self, alloc: Global, path: &str, bytes: Vec<u8>) -> Result<Given, AllocError> {
+        if self.asked.is_script {
+            return Ok(Given::Script(bytes));
+        }
+        if !self.asked.is_rich && !is_rich_path(path) && !is_marked(&bytes) {
+            return Ok(Given::Text(bytes));
+        }
+        match expand_text(alloc, &bytes) {
+            Ok(plain) => {
+                self.expanded.set(true);
+                Ok(Given::Text(plain))
+            }
+            Err(Unexpanded::Refused(refusal)) => Ok(Given::Refused(Refused {
+                text: refusal.body,
+                at: refusal.at,
+                fault: refusal.fault,
+                words: refusal.sentence,
+            })),
+            Err(Unexpanded::Memory) => Err(AllocError),
+        }
+    }
 }
 
 impl Source for FileSource<'_> {
@@ -86,8 +126,7 @@ impl Source for FileSource<'_> {
     fn give(&self, alloc: Global, path: &str) -> Result<Given, AllocError> {
         let notes = Notes::new();
         match noted_bytes(self.rt, path, &notes) {
-            Ok(Some(text)) if self.is_script => Ok(Given::Script(text)),
-            Ok(Some(text)) => Ok(Given::Text(text)),
+            Ok(Some(bytes)) => self.given(alloc, path, bytes),
             Ok(None) => Ok(Given::Unread(too_long(alloc, path)?)),
             Err(error) if error.kind() == io::ErrorKind::OutOfMemory => Err(AllocError),
             Err(_) => Ok(Given::Unread(cause_line(alloc, path.as_bytes(), notes.last())?)),

@@ -1,6 +1,6 @@
 //! What each word of the program does, with the values that it is given.
 
-use crate::input::{self, Input, open_text};
+use crate::input::{self, Input, is_rich_path, open_text, tell_of_plain};
 use crate::keeping::{self, KeptIn};
 use crate::reducing::{self, Wanted, threads_for};
 use crate::{
@@ -10,7 +10,7 @@ use crate::{
 use ic_args::table::{
     CHECKED, DISK, DRAWN, EVERY, EXPLAIN, FIGURES, FILE, GROUP, HELPERS, KEEP, LIMITS, LINES,
     MAX_ROUNDS, MAX_STEPS, NAMES, NODES, ONE_FILE, OVERWRITE, PARTIAL, QUIET, REDUCERS, REPORT,
-    RESUME, ROUNDS, RULES_TOO, RUNNERS, SCRIPT, SCRIPTS, SECONDS, STATS, STEPS, STRICT, SUMS,
+    RESUME, RICH, ROUNDS, RULES_TOO, RUNNERS, SCRIPT, SCRIPTS, SECONDS, STATS, STEPS, STRICT, SUMS,
     TABLE, TAKEN, TOPIC, TRACED, TURNS, WORKERS, Word, table,
 };
 use ic_args::{
@@ -19,10 +19,11 @@ use ic_args::{
 use ic_causes::{NotedInput, NotedOutput, Notes};
 use ic_diagnostics::{once_telling, settle_telling};
 use ic_exits::Failure;
+use ic_expand::Opened;
 use ic_in_place::{Asked, Bounds, RoundBounds};
 use ic_text::Limits;
 use ic_workers::Policy;
-use std::io::{self, StdinLock};
+use std::io::{self, Cursor, Read, StdinLock};
 use std::sync::Wait;
 use std::thread::Threads;
 
@@ -69,8 +70,19 @@ pub(crate) fn path_of<'v>(values: &Values<'v>) -> &'v str {
 /// What a word over a text reads.
 type Text<'a> = Input<'a, StdinLock<'static>>;
 
+/// What a word reads of a text that may be rich.
+type Opening<'a> = Opened<Text<'a>>;
+
+/// The text in the file that is named, or on standard input. A rich one is expanded; if it is refused, the lines that tell
+/// of it are appended to `told`.
+fn open_input<'a, T>(doing: &Doing<'a, '_, T>, told: &mut Vec<u8>) -> Result<Opening<'a>, Failure> {
+    let is_said = doing.values.flag(&RICH) || doing.values.file(&FILE).is_some_and(is_rich_path);
+    let input = open_given(doing)?;
+    ic_expand::open_text(doing.rt.alloc(), input, is_said, told).map_err(Failure::Stream)
+}
+
 /// The file that is named, or standard input, of which a terminal is told that a text is read from it.
-fn open_input<'a, T>(doing: &Doing<'a, '_, T>) -> Result<Text<'a>, Failure> {
+fn open_given<'a, T>(doing: &Doing<'a, '_, T>) -> Result<Text<'a>, Failure> {
     match doing.values.file(&FILE) {
         Some(path) => match open_text(doing.rt, path, doing.notes) {
             Ok(file) => Ok(Input::File(file)),
@@ -87,28 +99,37 @@ fn standard<'a, T>(doing: &Doing<'a, '_, T>) -> Text<'a> {
     Input::Standard(NotedInput::new(doing.rt.reader(), doing.notes))
 }
 
+/// Standard input, of which nothing is read yet.
+fn unread<'a, T>(doing: &Doing<'a, '_, T>) -> Opening<'a> {
+    let front = Cursor::new(Vec::new(doing.rt.alloc()));
+    Opened::Going(front.chain(standard(doing)))
+}
+
 fn settle<T>(doing: &Doing<'_, '_, T>, told: &mut Vec<u8>) -> Result<(), Failure> {
-    let mut input = open_input(doing)?;
+    let mut input = open_input(doing, told)?;
     let mut output = NotedOutput::new(io::writer(doing.rt), doing.notes);
-    settle_telling(doing.rt.alloc(), &mut input, &mut output, told).map_err(Failure::Stream)
+    let settled = settle_telling(doing.rt.alloc(), &mut input, &mut output, told);
+    tell_of_plain(&input, settled.map_err(Failure::Stream), told)
 }
 
 fn once<T>(doing: &Doing<'_, '_, T>, told: &mut Vec<u8>) -> Result<(), Failure> {
-    let mut input = open_input(doing)?;
+    let mut input = open_input(doing, told)?;
     let mut output = NotedOutput::new(io::writer(doing.rt), doing.notes);
-    once_telling(doing.rt.alloc(), &mut input, &mut output, told).map_err(Failure::Stream)
+    let made = once_telling(doing.rt.alloc(), &mut input, &mut output, told);
+    tell_of_plain(&input, made.map_err(Failure::Stream), told)
 }
 
 fn draw<T>(doing: &Doing<'_, '_, T>, told: &mut Vec<u8>) -> Result<(), Failure> {
-    let mut input = open_input(doing)?;
-    match doing.values.number_met(&DRAWN) {
+    let mut input = open_input(doing, told)?;
+    let drawn = match doing.values.number_met(&DRAWN) {
         Some(rounds) => looking::draw_after(doing.rt, rounds, &mut input, doing.notes, told),
         None => looking::draw(doing.rt, &mut input, doing.notes, told),
-    }
+    };
+    tell_of_plain(&input, drawn, told)
 }
 
 fn expand<T>(doing: &Doing<'_, '_, T>, told: &mut Vec<u8>) -> Result<(), Failure> {
-    let mut input = open_input(doing)?;
+    let mut input = open_given(doing)?;
     texts::expand(doing.rt, &mut input, doing.notes, told)
 }
 
@@ -122,8 +143,8 @@ fn trace<T>(doing: &Doing<'_, '_, T>, told: &mut Vec<u8>) -> Result<(), Failure>
         is_summed: doing.values.flag(&SUMS),
     };
     let limits = limits_of(doing.values);
-    let mut input = open_input(doing)?;
-    looking::trace(
+    let mut input = open_input(doing, told)?;
+    let traced = looking::trace(
         doing.rt,
         limits,
         bounds,
@@ -131,7 +152,8 @@ fn trace<T>(doing: &Doing<'_, '_, T>, told: &mut Vec<u8>) -> Result<(), Failure>
         &mut input,
         doing.notes,
         told,
-    )
+    );
+    tell_of_plain(&input, traced, told)
 }
 
 /// Reduces the text by rounds, in place, or in place with files in which is kept what is reached.
@@ -163,8 +185,8 @@ fn reduce_by_rounds<T>(
     };
     let wanted = wanted_of(doing.values, Policy::of(1));
     let limits = limits_of(doing.values);
-    let mut input = open_input(doing)?;
-    reducing::reduce_by_rounds(
+    let mut input = open_input(doing, told)?;
+    let reduced = reducing::reduce_by_rounds(
         doing.rt,
         limits,
         bounds,
@@ -172,7 +194,8 @@ fn reduce_by_rounds<T>(
         &mut input,
         doing.notes,
         told,
-    )
+    );
+    tell_of_plain(&input, reduced, told)
 }
 
 /// The limits of a text.
@@ -191,8 +214,8 @@ fn reduce_in_place<T: Threads + Sync>(
     let threads = threads_for(doing.threads, said_of(doing.values), bounds.steps);
     let wanted = wanted_of(doing.values, Policy::of(threads));
     let limits = limits_of(doing.values);
-    let mut input = open_input(doing)?;
-    reducing::reduce(
+    let mut input = open_input(doing, told)?;
+    let reduced = reducing::reduce(
         doing.rt,
         doing.threads,
         limits,
@@ -201,7 +224,8 @@ fn reduce_in_place<T: Threads + Sync>(
         &mut input,
         doing.notes,
         told,
-    )
+    );
+    tell_of_plain(&input, reduced, told)
 }
 
 /// One that goes on with what is kept reads no text.
@@ -221,11 +245,11 @@ fn reduce_kept<T: Threads + Sync>(
     let threads = threads_for(doing.threads, said_of(doing.values), bounds.steps);
     let wanted = wanted_of(doing.values, Policy::of(threads));
     let mut input = if begins {
-        open_input(doing)?
+        open_input(doing, told)?
     } else {
-        standard(doing)
+        unread(doing)
     };
-    keeping::reduce(
+    let reduced = keeping::reduce(
         doing.rt,
         doing.threads,
         kept,
@@ -234,7 +258,8 @@ fn reduce_kept<T: Threads + Sync>(
         &mut input,
         doing.notes,
         told,
-    )
+    );
+    tell_of_plain(&input, reduced, told)
 }
 
 /// How many threads are said to reduce, if it is said.
@@ -283,6 +308,7 @@ fn check<T>(doing: &Doing<'_, '_, T>, told: &mut Vec<u8>) -> Result<(), Failure>
         format: ReportFormat::of(doing.values.choice(&REPORT)),
         is_script: doing.values.flag(&SCRIPTS),
         is_strict: doing.values.flag(&STRICT),
+        is_rich: doing.values.flag(&RICH),
     };
     checking::check(doing.rt, &files, asked, doing.notes, told)
 }

@@ -3,6 +3,7 @@
 use crate::HostFile;
 use ic_causes::{NotedFiles, NotedInput, Notes, Target, cause_line, shown_path};
 use ic_exits::Failure;
+use ic_expand::Opened;
 use ic_streams::StreamFault;
 use std::alloc::{AllocError, Global};
 use std::fs::OpenOptions;
@@ -22,6 +23,29 @@ impl<R: Read> Read for Input<'_, R> {
             Input::File(file) => file.read(buf),
         }
     }
+}
+
+/// Whether the file of this path has a rich text, as its name says.
+pub(crate) fn is_rich_path(path: &str) -> bool {
+    path.ends_with(".rich")
+}
+
+/// What is told of a place in what a rich text is expanded to.
+pub(crate) const OF_PLAIN: &[u8] =
+    b"the line is the same in the rich text; `icserve expand` writes it as it is told here\n";
+
+/// How a word ended that read a text. If it is a rich one, and what that is expanded to is refused, `told` says that the place
+/// is one of that.
+pub(crate) fn tell_of_plain<R>(
+    opened: &Opened<R>,
+    done: Result<(), Failure>,
+    told: &mut Vec<u8>,
+) -> Result<(), Failure> {
+    let is_refused = matches!(done, Err(Failure::Stream(StreamFault::Text(_))));
+    if is_refused && opened.is_expanded() {
+        let _ = told.extend_from_slice(OF_PLAIN);
+    }
+    done
 }
 
 /// What a terminal is told from which a text is read.

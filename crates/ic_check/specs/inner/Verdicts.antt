@@ -1,7 +1,7 @@
 -- For private functions: what is found, file by file.
 use Rattle.std.specs.Prelude.{ℕ, List, Bool, true, false}
 use Rattle.ic_check.specs.Faults.{ScriptHasFault, TextHasFault}
-use Rattle.ic_check.specs.Files.{Content, text, script, unread}
+use Rattle.ic_check.specs.Files.{Content, text, script, unmeant, unread}
 use Rattle.ic_check.specs.declared.files.Verdict.{Verdict}
 use Rattle.ic_check.specs.declared.files.Verdict.TheVariants.{Fine, Faulty}
 
@@ -19,4 +19,5 @@ content_by true bytes = script bytes
 abbrev pub ContentHasFault : Content → Bool → Type 0
 ContentHasFault (text bytes) faulty = TextHasFault bytes faulty
 ContentHasFault (script bytes) faulty = ScriptHasFault bytes faulty
+ContentHasFault unmeant faulty = ⊥
 ContentHasFault unread faulty = ⊥

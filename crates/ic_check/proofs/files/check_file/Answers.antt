@@ -1,7 +1,7 @@
 use Rattle.std.proofs.Common.{List, ℕ, subst}
-use Rattle.ic_check.specs.Files.{content_of, text, script, unread}
+use Rattle.ic_check.specs.Files.{content_of, text, script, unmeant, unread}
 use Rattle.ic_check.specs.declared.files.Given.{Given}
-use Rattle.ic_check.specs.declared.files.Verdict.TheVariants.{Unread}
+use Rattle.ic_check.specs.declared.files.Verdict.TheVariants.{Faulty, Unread}
 use Rattle.ic_check.specs.inner.Verdicts.{ContentHasFault, verdict_by}
 use Rattle.ic_check.proofs.Looks.{found_by, over_one}
 use Rattle.ic_check.proofs.files.check_file.Goals as goal
@@ -25,6 +25,13 @@ returns-in-Script-clause-looked g c =
     let given : Gives path (script bytes) = subst (λ (v : Given). Gives path (content_of v)) c.in-Script.is c.in_ok-given.ensures.given in
     let has : ContentHasFault (script bytes) faulty = subst (λ (b : List ℕ). ContentHasFault (script b) faulty) c.deref-in-Script.ensures.value c.in_ok-is_faulty-in-Script.ensures.faulty in
     rw c.verdict_of-in-Script.ensures (over_one Gives path (script bytes) (verdict_by faulty) given (found_by (script bytes) faulty has))
+
+pub returns-in-Refused-clause-looked : goal.returns-in-Refused-clause-looked
+returns-in-Refused-clause-looked g c =
+    let Gives = g.S.Source.gives c.args.source.now in
+    let path = c.args.path.now in
+    let given : Gives path unmeant = subst (λ (v : Given). Gives path (content_of v)) c.in-Refused.is c.in_ok-given.ensures.given in
+    over_one Gives path unmeant Faulty given tt
 
 pub returns-clause-looked : goal.returns-clause-looked
 returns-clause-looked g c =
