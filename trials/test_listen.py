@@ -449,6 +449,17 @@ class Ends(Listens):
                 self.equals("another script for this disk", "its status", 6, second.end(None)[0])
             self.answers(client, "list", "jobs")
 
+    def test_a_script_that_waits_has_the_disk_once_the_one_before_has_ended(self):
+        disk = self.disk()
+        with self.listening(disk=disk) as listening:
+            with listening.client() as client:
+                self.answers(client, f"submit two {TWO.text}", "accepted")
+            ends = threading.Timer(0.5, listening.process.kill)
+            ends.start()
+            with Listening(disk, self.room / "second", "--wait", "60") as second, second.client() as client:
+                self.answers(client, "list", "jobs two:running:0")
+            ends.join()
+
     def test_where_the_server_ends_the_clients_are_closed(self):
         for sign, status in ((signal.SIGKILL, 4), (signal.SIGTERM, 4)):
             with self.listening(disk=self.disk(f"{sign}.disk")) as listening, listening.client() as client:

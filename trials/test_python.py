@@ -175,7 +175,11 @@ class Servers(Package):
         server.submit("two", TWO.text)
         fault = self.raised(self.icserve.Refusal, self.icserve.Server, self.room / "jobs.disk")
         self.equals("a second server", "the refusal", ("locked", 6), (fault.name, fault.status))
-        os.kill(server._process.pid, signal.SIGKILL)
+        ends = threading.Timer(0.5, os.kill, (server._process.pid, signal.SIGKILL))
+        ends.start()
+        with self.icserve.Server(self.room / "jobs.disk", wait=60) as other:
+            self.equals("a second server that waits", "the jobs", ["two"], [it.name for it in other.list()])
+        ends.join()
         self.raised(self.icserve.ServerEnded, server.list)
         server.close()
         with self.icserve.Server(self.room / "jobs.disk") as server:

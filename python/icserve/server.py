@@ -60,20 +60,21 @@ class Server:
     [Job(name='two', state='done', rounds=2, text=None)]
     """
 
-    def __init__(self, disk: Optional[PathText] = None, *, socket: Optional[PathText] = None, every: int = 100) -> None:
+    def __init__(self, disk: Optional[PathText] = None, *, socket: Optional[PathText] = None, every: int = 100, wait: int = 0) -> None:
         if (disk is None) == (socket is None):
             raise ValueError("either a disk or a socket is wanted")
         self._lock = threading.Lock()
         self._process: Optional["subprocess.Popen[bytes]"] = None
         if disk is not None:
-            self._start(disk, every)
+            self._start(disk, every, wait)
         else:
             self._connect(os.fspath(socket))  # type: ignore[arg-type]
 
-    def _start(self, disk: PathText, every: int) -> None:
+    def _start(self, disk: PathText, every: int, wait: int) -> None:
         if not Path(disk).exists():
             run("create", "--disk", disk).well()
         command = [program(), "serve", "--disk", os.fspath(disk), "--every", str(every)]
+        command += ["--wait", str(wait)] if wait else []
         pipes: Dict[str, Any] = {"stdin": subprocess.PIPE, "stdout": subprocess.PIPE, "stderr": subprocess.PIPE}
         self._process = subprocess.Popen(command, start_new_session=True, **pipes)
         self._given: IO[bytes] = self._process.stdin  # type: ignore[assignment]

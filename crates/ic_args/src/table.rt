@@ -180,6 +180,17 @@ const SEEN_DISK: Text = Text {
     help: "The path of the file, which stays as it is",
 };
 
+/// For how many seconds a disk is awaited that another process has.
+pub const WAIT: Number = Number {
+    name: "wait",
+    shown: "N",
+    least: 0,
+    most: 86_400,
+    default: Some("0"),
+    apart: &[],
+    help: "Try again for N seconds if the disk is locked, from 0 to 86400",
+};
+
 /// The path of a text.
 pub const FILE: Place = Place {
     name: "file",
@@ -468,7 +479,11 @@ pub const OVERWRITE: Flag = Flag {
     help: "Whatever the file holds, jobs too",
 };
 
-const CREATE: &[Argument] = &[Argument::Text(NEW_DISK), Argument::Flag(OVERWRITE)];
+const CREATE: &[Argument] = &[
+    Argument::Text(NEW_DISK),
+    Argument::Flag(OVERWRITE),
+    Argument::Number(WAIT),
+];
 
 /// Whether it is told what is wrong with each refused line.
 pub const EXPLAIN: Flag = Flag {
@@ -482,6 +497,7 @@ const SERVE: &[Argument] = &[
     Argument::Number(EVERY),
     Argument::Number(GROUP),
     Argument::Flag(EXPLAIN),
+    Argument::Number(WAIT),
 ];
 
 /// The paths of scripts.
@@ -532,6 +548,7 @@ const ATTEND: &[Argument] = &[
     Argument::Number(RUNNERS),
     Argument::Number(TURNS),
     Argument::Number(HELPERS),
+    Argument::Number(WAIT),
 ];
 
 /// The path of the lines of `batch`.
@@ -560,6 +577,7 @@ const BATCH: &[Argument] = &[
     Argument::Number(TAKEN),
     Argument::Number(EVERY),
     Argument::Number(WORKERS),
+    Argument::Number(WAIT),
 ];
 
 /// The names of jobs.
@@ -571,7 +589,11 @@ pub const NAMES: Place = Place {
     help: "The names of the jobs; all jobs, where none is given",
 };
 
-const DUMP: &[Argument] = &[Argument::Place(NAMES), Argument::Text(DISK)];
+const DUMP: &[Argument] = &[
+    Argument::Place(NAMES),
+    Argument::Text(DISK),
+    Argument::Number(WAIT),
+];
 
 const INSPECT: &[Argument] = &[Argument::Text(SEEN_DISK), Argument::Choice(REPORT)];
 

@@ -6,7 +6,7 @@ ghost use Rattle.ic_batch.specs.Jobs.{names};
 
 use crate::scripts::{line_of, read_file};
 use crate::standstill::halted_lines;
-use crate::{Making, NotedDisk, book_on, open_disk, put_empty, without_slot};
+use crate::{DiskAt, Making, NotedDisk, await_disk, book_on, put_empty, without_slot};
 use ic_batch::{BatchFault, JobsCause, JobsFault, NewJob, read_jobs};
 use ic_book::{Book, OpenCause};
 use ic_causes::{NotedOutput, Notes, shown_path};
@@ -24,10 +24,10 @@ use std::io::{self, Write};
 use std::sync::Wait;
 use std::thread::Threads;
 
-/// The paths of a disk and of a file of lines.
+/// The file of a disk, and the path of a file of lines.
 #[derive(Clone, Copy)]
 pub(crate) struct Files<'a> {
-    pub(crate) disk: &'a str,
+    pub(crate) disk: DiskAt<'a>,
     pub(crate) lines: &'a str,
 }
 
@@ -86,14 +86,13 @@ fn tell_refusal(
     told.extend_from_slice(&line)
 }
 
-/// The book on the disk in the file of this path. Where there is no disk, or what a stopped making of one
-/// has left, an empty one is made.
+/// The book on a disk. Where there is no disk, or what a stopped making of one has left, an empty one is made.
 fn made_book<'a>(
     rt: &HostRuntime,
-    path: &str,
+    at: DiskAt<'_>,
     notes: &'a Notes,
 ) -> Result<Book<NotedDisk<'a>>, Failure> {
-    let disk = open_disk(rt, path, true, notes)?;
+    let disk = await_disk(rt, at, true, notes)?;
     match Book::open(rt.alloc(), disk) {
         Ok(book) => Ok(book),
         Err(fault) => new_book(rt, without_slot(fault)?),

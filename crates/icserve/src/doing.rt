@@ -4,14 +4,14 @@ use crate::input::{self, Input, is_rich_path, open_text, tell_of_plain};
 use crate::keeping::{self, KeptIn};
 use crate::reducing::{self, Wanted, threads_for};
 use crate::{
-    Clients, Making, attend, batching, checking, create, dumping, inspecting, looking,
+    Clients, DiskAt, Making, attend, batching, checking, create, dumping, inspecting, looking,
     serve_session, show, texts,
 };
 use ic_args::table::{
     CHECKED, DISK, DRAWN, EVERY, EXPLAIN, FIGURES, FILE, GROUP, HELPERS, KEEP, LIMITS, LINES,
     MAX_ROUNDS, MAX_STEPS, NAMES, NODES, ONE_FILE, OVERWRITE, PARTIAL, QUIET, REDUCERS, REPORT,
     RESUME, RICH, ROUNDS, RULES_TOO, RUNNERS, SCRIPT, SCRIPTS, SECONDS, STATS, STEPS, STRICT, SUMS,
-    TABLE, TAKEN, TOPIC, TRACED, TURNS, WORKERS, Word, table,
+    TABLE, TAKEN, TOPIC, TRACED, TURNS, WAIT, WORKERS, Word, table,
 };
 use ic_args::{
     FiguresFormat, Place, ReportFormat, TextLimits, TraceFormat, Values, WordsFault, help_of,
@@ -65,6 +65,14 @@ pub(crate) fn do_word<T: Threads + Wait + Copy + Send + Sync + 'static>(
 pub(crate) fn path_of<'v>(values: &Values<'v>) -> &'v str {
     let kept = values.text(&KEEP).or(values.text(&RESUME));
     values.text(&DISK).or(kept).unwrap_or("")
+}
+
+/// The disk's file, and how long it is awaited.
+fn disk_at<'v>(values: &Values<'v>) -> DiskAt<'v> {
+    DiskAt {
+        path: path_of(values),
+        seconds: values.number(&WAIT),
+    }
 }
 
 /// What a word over a text reads.
@@ -315,20 +323,20 @@ fn check<T>(doing: &Doing<'_, '_, T>, told: &mut Vec<u8>) -> Result<(), Failure>
 
 fn create_disk<T>(doing: &Doing<'_, '_, T>) -> Result<(), Failure> {
     let overwrite = doing.values.flag(&OVERWRITE);
-    create(doing.rt, path_of(doing.values), overwrite, doing.notes)
+    create(doing.rt, disk_at(doing.values), overwrite, doing.notes)
 }
 
 fn serve<T: Threads + Wait + Copy + Send + 'static>(
     doing: &Doing<'_, '_, T>,
 ) -> Result<(), Failure> {
-    let path = path_of(doing.values);
+    let at = disk_at(doing.values);
     let explains = doing.values.flag(&EXPLAIN);
     let making = making_of(
         doing.threads,
         doing.values,
         doing.values.number(&GROUP) as u32,
     );
-    serve_session(doing.rt, doing.threads, path, making, explains, doing.notes)
+    serve_session(doing.rt, doing.threads, at, making, explains, doing.notes)
 }
 
 fn attend_disk<T: Threads + Wait + Sync>(
@@ -341,11 +349,11 @@ fn attend_disk<T: Threads + Wait + Sync>(
         workers: doing.values.number(&HELPERS) as u32,
     };
     let scripts = words_at(doing, &SCRIPT)?;
-    let path = path_of(doing.values);
+    let at = disk_at(doing.values);
     attend(
         doing.rt,
         doing.threads,
-        path,
+        at,
         &scripts,
         clients,
         doing.notes,
@@ -360,7 +368,7 @@ fn batch<T: Threads + Wait + Copy + Send + 'static>(
     let most = most_of(doing.values);
     let making = making_of(doing.threads, doing.values, 1);
     let files = batching::Files {
-        disk: path_of(doing.values),
+        disk: disk_at(doing.values),
         lines: doing.values.word(&LINES).unwrap_or(""),
     };
     batching::batch(
@@ -395,7 +403,7 @@ fn making_of<T: Threads>(threads: &T, values: &Values, group: u32) -> Making {
 
 fn dump<T>(doing: &Doing<'_, '_, T>) -> Result<(), Failure> {
     let names = words_at(doing, &NAMES)?;
-    dumping::dump(doing.rt, path_of(doing.values), &names, doing.notes)
+    dumping::dump(doing.rt, disk_at(doing.values), &names, doing.notes)
 }
 
 fn inspect<T>(doing: &Doing<'_, '_, T>) -> Result<(), Failure> {

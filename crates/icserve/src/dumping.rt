@@ -1,6 +1,6 @@
 //! The program's word `dump`: jobs of a disk as lines that submit them, on standard output.
 
-use crate::open_disk;
+use crate::{DiskAt, await_disk};
 use ic_args::WordsFault;
 use ic_causes::{NotedOutput, Notes};
 use ic_dump::dump_disk;
@@ -9,16 +9,16 @@ use ic_rules::JobName;
 use std::alloc::{AllocError, Global};
 use std::io;
 
-/// Prints the line of each job of these names, or of each job where there are none, that the disk in
-/// the file of this path holds. The disk stays as it is, and is locked until all is printed.
+/// Prints the line of each job of these names, or of each job where there are none, that a disk holds. The disk stays as it
+/// is, and is locked until all is printed.
 pub(crate) fn dump(
     rt: &HostRuntime,
-    path: &str,
+    at: DiskAt<'_>,
     words: &[String],
     notes: &Notes,
 ) -> Result<(), Failure> {
     let names = names_of(rt.alloc(), words).map_err(Failure::Words)?;
-    let disk = open_disk(rt, path, false, notes)?;
+    let disk = await_disk(rt, at, false, notes)?;
     let mut output = NotedOutput::new(io::writer(rt), notes);
     let (_disk, dumped) = dump_disk(rt.alloc(), disk, &names, &mut output);
     dumped.map_err(Failure::from)

@@ -49,10 +49,16 @@ use std::env;
 use std::io::{self, BufWriter, ErrorKind, IsTerminal, Read, Write};
 use std::process::ExitCode;
 use std::sync::Wait;
-use std::thread::Threads;
+use std::thread::{self, Threads};
+use std::time::Duration;
 
 /// How many bytes of answers are gathered at most before they are written.
 const ANSWERS: usize = 65_536;
+
+/// How often in a second a disk is tried that another process has, and for how many milliseconds nothing is done between.
+const TRIES: u64 = 20;
+
+const PAUSE: u64 = 1_000 / TRIES;
 
 /// A disk in a file, of which each call that fails is noted.
 pub(crate) type NotedDisk<'a> = FileDisk<HostFile<'a>>;
@@ -117,18 +123,25 @@ struct Clients {
     workers: u32,
 }
 
-/// Gives the scripts in these files to the disk in the file of this path.
+/// The file of a disk, and for how many seconds it is awaited while another process has it.
+#[derive(Clone, Copy)]
+pub(crate) struct DiskAt<'a> {
+    pub(crate) path: &'a str,
+    pub(crate) seconds: u64,
+}
+
+/// Gives the scripts in these files to a disk.
 fn attend<T: Threads + Wait + Sync>(
     rt: &HostRuntime,
     threads: &T,
-    path: &str,
+    at: DiskAt<'_>,
     scripts: &[String],
     clients: Clients,
     notes: &Notes,
     told: &mut Vec<u8>,
 ) -> Result<(), Failure> {
     let scripts = scripts::read_scripts(rt, scripts, told).map_err(Failure::Attend)?;
-    let disk = open_disk(rt, path, false, notes)?;
+    let disk = await_disk(rt, at, false, notes)?;
     let given = give(rt, threads, disk, scripts, clients, notes);
     if matches!(given, Err(ScriptsFault::Book(BookFault::LogFull))) {
         let _ = told.extend_from_slice(scripts::FULL);
@@ -149,6 +162,22 @@ fn words_after(rt: &HostRuntime) -> Result<Vec<String>, WordsFault> {
     };
     let _program = words.next();
     Ok(words.collect::<Vec<String>>(alloc)?)
+}
+
+/// Opens a disk, which with `create` is made where it is missing. While another process has it, it is tried again.
+pub(crate) fn await_disk<'a>(
+    rt: &HostRuntime,
+    at: DiskAt<'_>,
+    create: bool,
+    notes: &'a Notes,
+) -> Result<NotedDisk<'a>, Failure> {
+    for _ in 0..at.seconds.saturating_mul(TRIES) {
+        match open_disk(rt, at.path, create, notes) {
+            Err(Failure::Locked) => thread::sleep(rt, Duration::from_millis(PAUSE)),
+            opened => return opened,
+        }
+    }
+    open_disk(rt, at.path, create, notes)
 }
 
 /// Opens the disk in the file of this path, which with `create` is made where it is missing.
@@ -179,10 +208,10 @@ pub(crate) fn open_disk_as<'a>(
     FileDisk::open(&files, path, create).map_err(|fault| opening_failure(fault, notes.last()))
 }
 
-/// Puts the empty table on the disk in the file of this path. What stands there and would be lost is
-/// overwritten only where that is asked for. Where it is the empty table, nothing is written.
-fn create(rt: &HostRuntime, path: &str, overwrite: bool, notes: &Notes) -> Result<(), Failure> {
-    let mut disk = open_disk(rt, path, true, notes)?;
+/// Puts the empty table on a disk. What stands there and would be lost is overwritten only where that is asked for. Where
+/// it is the empty table, nothing is written.
+fn create(rt: &HostRuntime, at: DiskAt<'_>, overwrite: bool, notes: &Notes) -> Result<(), Failure> {
+    let mut disk = await_disk(rt, at, true, notes)?;
     if overwrite {
         return put_empty(rt, &mut disk);
     }
@@ -221,13 +250,13 @@ pub(crate) fn without_slot<'a>(fault: OpenFault<NotedDisk<'a>>) -> Result<NotedD
     }
 }
 
-/// Opens the book on the disk in the file of this path.
+/// Opens the book on a disk that is awaited.
 fn open<'a>(
     rt: &HostRuntime,
-    path: &str,
+    at: DiskAt<'_>,
     notes: &'a Notes,
 ) -> Result<Book<NotedDisk<'a>>, Failure> {
-    let disk = open_disk(rt, path, false, notes)?;
+    let disk = await_disk(rt, at, false, notes)?;
     book_on(rt, disk)
 }
 
@@ -274,16 +303,16 @@ impl Making {
     }
 }
 
-/// Serves the lines of standard input over the disk in the file of this path.
+/// Serves the lines of standard input over a disk.
 fn serve_session<T: Threads + Wait + Copy + Send + 'static>(
     rt: &HostRuntime,
     threads: &T,
-    path: &str,
+    at: DiskAt<'_>,
     making: Making,
     explains: bool,
     notes: &Notes,
 ) -> Result<(), Failure> {
-    let book = open(rt, path, notes)?;
+    let book = open(rt, at, notes)?;
     let mut session = Session::new(rt, NotedInput::new(rt.reader(), notes), explains);
     serve(rt, threads, book, &mut session, making, explains, notes)
 }
