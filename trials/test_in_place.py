@@ -20,7 +20,7 @@ from worked_rows import expanded, rows
 MOST = 2**62 - 1
 
 STATS = re.compile(
-    rb"icserve: interactions (\d+)(?:, name steps (\d+))?, nodes (\d+), equations (\d+), threads (\d+), shared (\d+), seconds (?:0\.000|\d+\.\d{3}, interactions a second \d+)\n"
+    rb"icserve: interactions (\d+)(?:, name steps (\d+))?, nodes (\d+), equations (\d+)(?:, rounds \d+)?, threads (\d+), shared (\d+), seconds (?:0\.000|\d+\.\d{3}, interactions a second \d+)\n"
     rb"icserve: (no interactions|rule \d+ \S+><\S+: \d+ interactions?(?:, rule \d+ \S+><\S+: \d+ interactions?)*)\n"
 )
 REACHED = re.compile(rb"interactions (\d+), nodes (\d+), equations (\d+)(?:, --nodes (\d+))?\n")

@@ -9,7 +9,7 @@ from collections import Counter
 import draws
 import model
 import nets
-from program import IN_MEMORY, Trial, run
+from program import IN_MEMORY, TOP, Trial, run
 from test_in_place import DOUBLES, numeral, stats_of
 
 SYSTEMS = int(os.environ.get("SYSTEMS") or 200)
@@ -221,6 +221,16 @@ class WideRounds(Trial):
             self.equals(ran.command, "that the title says it", True, told.encode() in ran.out)
             self.equals(ran.command, "the sum of all bars", rounds, sum(int(it[1]) for it in bars))
             self.equals(ran.command, "how many bars", -(-rounds // width), len(bars))
+
+    def test_figures_tell_how_many_rounds_were_made(self):
+        text = (TOP / "examples/sort.ic").read_text()
+        for asked, made in ((7, 7), (19, 19), (1_000, 19)):
+            words = ["reduce", "--rounds", asked, "--stats", "--quiet-answer"]
+            told = run(*words, given=text).err.decode()
+            self.equals(words, f"the rounds in {told}", [str(made)], re.findall(r", equations \d+, rounds (\d+), threads 1,", told))
+            figures = json.loads(run(*words, "--format", "json", given=text).err.decode().split("\n")[0])
+            self.equals(words, f"the rounds in {figures}", made, figures["rounds"])
+        self.equals("reduce", "whether rounds are told", False, b"rounds" in run("reduce", "--stats", given=text).err)
 
     def test_no_workers_beside_rounds(self):
         ran = run("reduce", "--rounds", 3, "--workers", 2, given="<|>")

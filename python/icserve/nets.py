@@ -18,7 +18,8 @@ PathText = Union[str, "os.PathLike[str]"]
 @dataclass(frozen=True)
 class Answer:
     """What a text was reduced to. `is_done` says whether no step is possible any more. Then `stuck` is the first pair without a rule, and
-    `circle` the symbol at which the first circle is closed. `by_rule` has the interactions of each rule, by its two symbols."""
+    `circle` the symbol at which the first circle is closed. `by_rule` has the interactions of each rule, by its two symbols, and `span`
+    is the number of rounds, of a text that is reduced by rounds."""
 
     text: str
     is_done: bool
@@ -29,6 +30,7 @@ class Answer:
     threads: Optional[int] = None
     milliseconds: Optional[int] = None
     circle: Optional[str] = None
+    span: Optional[int] = None
 
     def __str__(self) -> str:
         return self.text
@@ -62,7 +64,7 @@ def answer_of(ran: Ran) -> Answer:
     for it in figures["by_rule"]:
         by_rule[it["rule"]] = by_rule.get(it["rule"], 0) + it["interactions"]
     names = ("stuck", "circle", "interactions", "nodes", "threads", "milliseconds")
-    return Answer(text, ran.status == 0, by_rule=by_rule, **{it: figures[it] for it in names})
+    return Answer(text, ran.status == 0, by_rule=by_rule, span=figures.get("rounds"), **{it: figures[it] for it in names})
 
 
 def options(**values: Optional[Any]) -> List[str]:
@@ -85,6 +87,8 @@ def reduce(
     ('<S(S(S(Z)))|>', 3, {'Add><Z': 1, 'Add><S': 2})
     >>> reduce("{A(B(x))><B(A(x))} <|A(x)=B(x)>", steps=1000).is_done
     False
+    >>> reduce("{A><B} <|A=B,A=B>", rounds=100).span
+    1
 
     With `keep` it is kept in two files now and then, and goes on by `resume` after a stop. What the program refuses raises
     `Refusal`."""

@@ -13,10 +13,12 @@ use std::alloc::{AllocError, Global};
 use std::fmt::Write;
 
 /// The lines that tell the figures of a reduction by so many threads that took so many milliseconds: how many steps were
-/// made, how many names and agents there were and equations were left, the threads, how fast it was, and how often each rule fired.
+/// made, how many names and agents there were and equations were left, how many rounds were made if it is reduced by rounds,
+/// the threads, how fast it was, and how often each rule fired.
 pub fn figures_lines(
     alloc: Global,
     outcome: &Outcome,
+    rounds: Option<u64>,
     threads: usize,
     millis: u64,
 ) -> Result<Vec<u8>, AllocError>
@@ -24,7 +26,7 @@ pub fn figures_lines(
     ensures told { IfOk result (λ lines. StandsIn
         (codes "interactions " ++ decimal outcome.now.interactions) lines.items) }
 {
-    let rest = rest_of_lines(alloc, outcome, threads, millis)?;
+    let rest = rest_of_lines(alloc, outcome, rounds, threads, millis)?;
     let mut lines = b"icserve: ".to_vec(alloc)?;
     put_told(
         b"interactions ",
@@ -39,6 +41,7 @@ pub fn figures_lines(
 pub fn figures_object(
     alloc: Global,
     outcome: &Outcome,
+    rounds: Option<u64>,
     threads: usize,
     millis: u64,
 ) -> Result<Vec<u8>, AllocError>
@@ -46,7 +49,7 @@ pub fn figures_object(
     ensures told { IfOk result (λ object. StandsIn
         (codes "\"interactions\":" ++ decimal outcome.now.interactions) object.items) }
 {
-    let rest = rest_of_object(alloc, outcome, threads, millis)?;
+    let rest = rest_of_object(alloc, outcome, rounds, threads, millis)?;
     let mut object = front_of_object(alloc, outcome)?.into_bytes();
     put_told(
         b"\"interactions\":",
@@ -71,6 +74,7 @@ fn put_told(label: &[u8], number: u64, after: &[u8], out: &mut Vec<u8>) -> Resul
 fn rest_of_lines(
     alloc: Global,
     outcome: &Outcome,
+    rounds: Option<u64>,
     threads: usize,
     millis: u64,
 ) -> Result<String, AllocError> {
@@ -79,10 +83,11 @@ fn rest_of_lines(
         write!(out, ", name steps {count}")?;
     }
     let (nodes, left, shared) = (outcome.nodes, outcome.left, outcome.shared);
-    write!(
-        out,
-        ", nodes {nodes}, equations {left}, threads {threads}, shared {shared}"
-    )?;
+    write!(out, ", nodes {nodes}, equations {left}")?;
+    if let Some(rounds) = rounds {
+        write!(out, ", rounds {rounds}")?;
+    }
+    write!(out, ", threads {threads}, shared {shared}")?;
     let (seconds, thousandths) = (millis / 1_000, millis % 1_000);
     write!(out, ", seconds {seconds}.{thousandths:03}")?;
     if millis > 0 {
@@ -186,6 +191,7 @@ fn put_some(text: &Option<Vec<u8>>, out: &mut String) -> Result<(), AllocError> 
 fn rest_of_object(
     alloc: Global,
     outcome: &Outcome,
+    rounds: Option<u64>,
     threads: usize,
     millis: u64,
 ) -> Result<String, AllocError> {
@@ -194,14 +200,12 @@ fn rest_of_object(
         write!(out, ",\"name_steps\":{count}")?;
     }
     let (nodes, left, shared) = (outcome.nodes, outcome.left, outcome.shared);
-    write!(
-        out,
-        ",\"nodes\":{nodes},\"equations\":{left},\"threads\":{threads}"
-    )?;
-    write!(
-        out,
-        ",\"shared\":{shared},\"milliseconds\":{millis},\"interactions_a_second\":"
-    )?;
+    write!(out, ",\"nodes\":{nodes},\"equations\":{left}")?;
+    if let Some(rounds) = rounds {
+        write!(out, ",\"rounds\":{rounds}")?;
+    }
+    write!(out, ",\"threads\":{threads},\"shared\":{shared}")?;
+    write!(out, ",\"milliseconds\":{millis},\"interactions_a_second\":")?;
     if millis > 0 {
         let pace = a_second(outcome.interactions, millis);
         write!(out, "{pace}")?;

@@ -246,7 +246,7 @@ pub(crate) fn tell_end(
     nodes: u64,
 ) -> Result<(), Failure> {
     if let Some(format) = wanted.figures {
-        tell_figures(rt, outcome, wanted.policy.workers, time, format);
+        tell_figures(rt, outcome, rounds, wanted.policy.workers, time, format);
     }
     if let Some(pair) = &outcome.stuck {
         tell_stuck(rt, pair);
@@ -292,18 +292,20 @@ pub(crate) fn time_since(rt: &HostRuntime, begun: Option<Instant>) -> Duration {
     }
 }
 
-/// Tells on standard error how many steps were made, by how many threads, how fast, and how many interactions by each rule.
+/// Tells on standard error how many steps were made, in how many rounds, by how many threads, how fast, and how many
+/// interactions by each rule.
 fn tell_figures(
     rt: &HostRuntime,
     outcome: &Outcome,
+    rounds: Option<u64>,
     threads: usize,
     time: Duration,
     format: FiguresFormat,
 ) {
     let millis = u64::try_from(time.as_millis()).unwrap_or(u64::MAX);
     let figures = match format {
-        FiguresFormat::Lines => figures_lines(rt.alloc(), outcome, threads, millis),
-        FiguresFormat::Objects => figures_object(rt.alloc(), outcome, threads, millis),
+        FiguresFormat::Lines => figures_lines(rt.alloc(), outcome, rounds, threads, millis),
+        FiguresFormat::Objects => figures_object(rt.alloc(), outcome, rounds, threads, millis),
     };
     if let Ok(figures) = figures {
         let _ = rt.stderr().write_all(&figures);
