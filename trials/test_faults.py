@@ -326,18 +326,23 @@ class Faults(Stops):
         calls = self.served(LAP, ("once", "on"), "thread", words=("--workers", "4"), may_go_well=True)
         self.equals("a lap by 4 workers", "threads", 3, calls)
 
-    def test_jobs_of_2000_equations_and_more_together_are_made_by_as_many_threads_as_said(self):
-        """Rounds of fewer, of one job or one at a time are made by the thread that serves. The shim counts the threads."""
+    def test_jobs_of_1000_equations_and_more_together_are_made_by_as_many_threads_as_said(self):
+        """Rounds of fewer, of one job, one at a time, or with more than 64 words for each equation are made by the thread that serves.
+        The shim counts the threads."""
         disk = self.room / "jobs.disk"
-        for count, asked in ((1, 2), (500, 2), (999, 2), (1000, 2), (2048, 2), (2048, 1)):
+        two = [((("a", 1), ("b", 1)), it) for it in ((1, 2), (499, 2), (500, 2), (1024, 2), (1024, 1))]
+        large = tuple((f"j{it}", 7000) for it in range(32))
+        for jobs, (count, asked) in [*two, (large, (40, 2)), (large[:20], (200, 2))]:
             for workers in (1, 2, 7, 64):
                 put(disk, slot(1, EMPTY))
-                lines = [f"submit {name} {{A><B}} <|" + ",".join(["A=B"] * count) + ">" for name in "ab"] + [f"run {asked}"]
+                nets = [(name, "C(" * (nodes - 1) + "D" + ")" * (nodes - 1)) for name, nodes in jobs]
+                lines = [f"submit {name} {{A><B}} <{net}|" + ",".join(["A=B"] * count) + ">" for name, net in nets] + [f"run {asked}"]
                 counts = shimmed(f"thread {10**9} once", self.log)
-                ran = self.serves(disk, lines, ["accepted", "accepted", f"ran {asked}"], "--workers", workers, env=counts)
+                ran = self.serves(disk, lines, [*["accepted"] * len(jobs), f"ran {asked}"], "--workers", workers, env=counts)
                 threads = next(it.at for it in noted(self.log) if it.kind == "C")
-                made = workers - 1 if count >= 1000 and asked > 1 else 0
-                self.equals(ran.command, f"threads for two jobs of {count} equations, and {asked} rounds", made, threads)
+                is_lap = count * len(jobs) >= 1000 and asked > 1 and jobs[0][1] <= 60 * count
+                made = workers - 1 if is_lap else 0
+                self.equals(ran.command, f"threads for {len(jobs)} jobs of {count} equations, and {asked} rounds", made, threads)
 
     def test_drawn_growths_of_a_lap_by_threads_are_refused(self):
         draw, disk = self.draws(), self.room / "jobs.disk"
