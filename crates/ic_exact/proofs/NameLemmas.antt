@@ -12,7 +12,7 @@ use Rattle.ic_rules.specs.lemmas.RenamingLaws.{names-renamed, flat_names-renamed
 use Rattle.ic_text.specs.Name.{is_name}
 use Rattle.ic_naming.specs.Naming.{renamed_pair}
 use Rattle.ic_naming.specs.lemmas.Occurring.{occurrences-cons, occurrences-other}
-use Rattle.ic_expand.specs.Reading.{IsRenaming as IsWritten}
+use Rattle.ic_expand.specs.Names.{IsRenaming as IsWritten}
 use Rattle.ic_dump.specs.Submitting.{IsRenaming}
 
 all_there : {X : Type 0} (P : X → Type 0) (xs : List X) (x : X) → AllByRecursion P xs → Contains xs x → P x
