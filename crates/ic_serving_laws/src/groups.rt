@@ -1,13 +1,13 @@
 //! Laws of groups: lines that are answered at once.
 
-ghost use Rattle.std.specs.Prelude.{◌≡◌, ◌≢◌, ◌<◌, ◌≤◌, ◌+◌, ◌-◌, ◌^◌, ℕ, List, false, flat_map, length, map};
+ghost use Rattle.std.specs.Prelude.{◌≡◌, ◌≢◌, ◌≤◌, ◌+◌, ◌-◌, ◌^◌, ℕ, List, false, flat_map, length, map};
 ghost use Rattle.std.specs.List.{AllByRecursion};
 ghost use Rattle.ic_jobs.specs.declared.event.Event.TheVariants.{Command as by_command};
 ghost use Rattle.ic_lines.specs.Serving.{IsServed};
-ghost use Rattle.ic_book.specs.Book.{disk_of, is_broken, log_of, number_of, table_of};
+ghost use Rattle.ic_book.specs.Book.{disk_of, is_broken, number_of, table_of};
 ghost use Rattle.ic_serving.specs.Answered.{IsGroupAnswered};
 ghost use Rattle.ic_serving.specs.Booked.{IsAllKept};
-ghost use Rattle.ic_serving.specs.Grown.{GoesOn, HasRoom};
+ghost use Rattle.ic_serving.specs.Grown.{GoesOn, HasRoom, HasSpare};
 ghost use Rattle.ic_serving.specs.InTurn.{AreServedInTurn};
 
 use ic_book::Book;
@@ -28,8 +28,8 @@ pub fn lines_are_parted_into_groups<D: Disk>(old: &Book<D>, new: &Book<D>)
 }
 
 /// A group of lines is served: this answers it, and it leaves this table, all of it kept, in a book that
-/// isn't broken. It is answered over none whose slots' numbers are used up. Where the log has room, its
-/// events stand after it, and no more calls to the disk are made than one keep makes.
+/// isn't broken. It is answered over none whose slots' numbers are used up. Where the page has
+/// room, its events stand after those before, and no more calls to the disk are made than one keep makes.
 pub fn a_group_is_answered_as_it_is_served<D: Disk>(before: &Book<D>, after: &Book<D>)
     ensures served { (ls : List (List ℕ)) (bytes : List ℕ)
         → IsGroupAnswered ls bytes before.now after.now
@@ -39,14 +39,14 @@ pub fn a_group_is_answered_as_it_is_served<D: Disk>(before: &Book<D>, after: &Bo
     ensures whole { (ls : List (List ℕ)) (bytes : List ℕ)
         → IsGroupAnswered ls bytes before.now after.now → is_broken after.now ≡ false }
     ensures fresh { (ls : List (List ℕ)) (bytes : List ℕ)
-        → IsGroupAnswered ls bytes before.now after.now → length (log_of before.now) < 65536
+        → IsGroupAnswered ls bytes before.now after.now
         → number_of before.now ≢ 2 ^ 64 - 1 }
     ensures page { (ls : List (List ℕ)) (bytes : List ℕ)
         (is : IsGroupAnswered ls bytes before.now after.now)
         → HasRoom (map by_command is.commands) before.now
         → GoesOn (map by_command is.commands) before.now after.now }
     ensures calls { (ls : List (List ℕ)) (bytes : List ℕ)
-        → IsGroupAnswered ls bytes before.now after.now → length (log_of before.now) < 65536
+        → IsGroupAnswered ls bytes before.now after.now → HasSpare before.now
         → D.clock (disk_of after.now) ≤ D.clock (disk_of before.now) + 6 }
 {
     let _ = before;
