@@ -54,10 +54,16 @@ class Locked(Trial):
         with Server(self.jobs, "--workers", 1) as first:
             self.answers(first, f"submit loop {LOOP.text}", "accepted")
             words = [PROGRAM, "serve", "--disk", self.jobs, "--workers", "1", "--wait", "60"]
-            pipes = {"stdin": subprocess.PIPE, "stdout": subprocess.PIPE, "stderr": subprocess.PIPE}
-            others = [subprocess.Popen(words, **pipes) for _ in range(2)]
+            pipes = {"stdout": subprocess.PIPE, "stderr": subprocess.PIPE}
+            lines = self.room / "one round"
+            lines.write_text("run 1\n")
+            # Either may have the disk first, so each has its line from the beginning.
+            others = []
+            for _ in range(2):
+                with open(lines, "rb") as given:
+                    others.append(subprocess.Popen(words, stdin=given, **pipes))
             self.ends(first)
-        told = [it.communicate(b"run 1\n", timeout=60) for it in others]
+        told = [it.communicate(timeout=60) for it in others]
         self.equals(words, "what both were told", [(b"ran 1\n", b"")] * 2, told)
         self.serves(self.jobs, ["list"], ["jobs loop:running:2"])
 
