@@ -29,6 +29,7 @@ fn is_form(piece: &[u8]) -> bool
         || piece == b"list".as_slice()
         || piece == b"pair".as_slice()
         || piece == b"let".as_slice()
+        || piece == b"use".as_slice()
 }
 
 /// The byte that stands before what follows a piece, blanks apart.

@@ -29,6 +29,7 @@ mod words;
 mod writing;
 
 pub use fault::{ExpandFault, Reason};
+pub use ic_rich::Files;
 pub use limits::MAX_RICH_TEXT;
 pub use marks::is_marked;
 pub use opening::{Opened, open_text};

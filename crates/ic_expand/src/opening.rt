@@ -8,6 +8,7 @@ ghost use Rattle.ic_expand.specs.inner.Causes.{TakesFront};
 
 use crate::marks::{TELLING, is_marked};
 use crate::stream::{read_whole, told_text};
+use ic_rich::Files;
 use ic_streams::StreamFault;
 use std::alloc::Global;
 use std::io::{self, Chain, Cursor, ErrorKind, Read};
@@ -52,10 +53,11 @@ impl<R: Read> Read for Opened<R> {
 
 /// Opens the text that a reader gives, which is rich where that is said, and where it begins with the word `#rich`. Any
 /// other one is read as it is; a rich one is read whole first, and of one that is refused `told` gets the lines.
-pub fn open_text<R: Read + Drop>(
+pub fn open_text<R: Read + Drop, F: Files>(
     alloc: Global,
     mut reader: R,
     said: bool,
+    files: &F,
     told: &mut Vec<u8>,
 ) -> Result<Opened<R>, StreamFault>
     // These hold of the text that the reader has, where it tells its bytes.
@@ -74,7 +76,7 @@ pub fn open_text<R: Read + Drop>(
         return Ok(opened);
     }
     let text = read_whole(alloc, &mut opened)?;
-    let out = told_text(alloc, &text, told)?;
+    let out = told_text(alloc, &text, files, told)?;
     Ok(rich_with(out))
 }
 

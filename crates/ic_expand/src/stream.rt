@@ -9,6 +9,7 @@ ghost use Rattle.ic_streams.specs.declared.fault.StreamFault.TheVariants.{Text};
 use crate::limits::MAX_RICH_TEXT;
 use crate::texts::{Refusal, Unexpanded, expand_text};
 use ic_diagnostics::place_lines;
+use ic_rich::Files;
 use ic_streams::{StreamFault, write_line};
 use std::alloc::Global;
 use std::io::{ErrorKind, Read, Write};
@@ -21,10 +22,11 @@ const CHUNK: usize = 8_192;
 /// Nothing is written before the text is read and expanded. A text of more than 16,777,216 bytes is `TextFault::Limit`,
 /// and at most 16,777,217 bytes are read; any other refusal is `TextFault::Syntax`. Where the text is refused, the lines
 /// that tell of it are appended to `told`.
-pub fn expand_stream<R: Read, W: Write>(
+pub fn expand_stream<R: Read, W: Write, F: Files>(
     alloc: Global,
     reader: &mut R,
     writer: &mut W,
+    files: &F,
     told: &mut Vec<u8>,
 ) -> Result<(), StreamFault>
     // There is a text of which this holds: the reader's, where it tells its bytes.
@@ -38,7 +40,7 @@ pub fn expand_stream<R: Read, W: Write>(
     ensures quiet { OnOk result (told.new.items ≡ told.old.items) }
 {
     let text = read_whole(alloc, reader)?;
-    let out = told_text(alloc, &text, told)?;
+    let out = told_text(alloc, &text, files, told)?;
     write_line(writer, &out)
 }
 
@@ -68,9 +70,10 @@ pub(crate) fn read_whole<R: Read>(alloc: Global, reader: &mut R) -> Result<Vec<u
 }
 
 /// What a text is expanded to, or its refusal, of which `told` gets the lines.
-pub(crate) fn told_text(
+pub(crate) fn told_text<F: Files>(
     alloc: Global,
     text: &[u8],
+    files: &F,
     told: &mut Vec<u8>,
 ) -> Result<Vec<u8>, StreamFault>
     ensures text { IfOk result (λ out. Expands text.now (Ok out.items)) }
@@ -79,7 +82,7 @@ pub(crate) fn told_text(
     ensures sort { IfErr result
         (λ fault. (fault ≢ StreamFault.Write) × (fault ≢ StreamFault.Read)) }
 {
-    match expand_text(alloc, text) {
+    match expand_text(alloc, text, files) {
         Ok(out) => Ok(out),
         Err(Unexpanded::Memory) => Err(StreamFault::Memory),
         Err(Unexpanded::Refused(refusal)) => Err(told_fault(alloc, &refusal, told)),

@@ -11,7 +11,7 @@ use crate::comments::without_comments;
 use crate::fault::{ExpandFault, Reason};
 use crate::forms::has_form;
 use crate::writing::expand;
-use ic_rich::{RichFault, Unfolded, sentence, unfold};
+use ic_rich::{Files, JoinFault, JoinRefusal, Joined, RichFault, Unfolded, join, sentence, unfold};
 use ic_text::TextFault;
 use std::alloc::{AllocError, AllocFailed, Global};
 
@@ -48,36 +48,75 @@ impl<T: Drop> From<AllocFailed<T>> for Unexpanded {
     }
 }
 
-/// The text of the calculus for which a text stands, whatever forms it has.
-pub fn expand_text(alloc: Global, text: &[u8]) -> Result<Vec<u8>, Unexpanded>
+/// The text of the calculus for which a text stands, whatever forms it has, with the rules of the files that it uses.
+pub fn expand_text<F: Files>(alloc: Global, text: &[u8], files: &F) -> Result<Vec<u8>, Unexpanded>
     ensures text { IfOk result (λ out. Expands text.now (Ok out.items)) }
     ensures refused { IfErr result (λ cause. IsCause text.now cause) }
 {
     if has_form(alloc, text)? {
-        formed_text(alloc, text)
+        formed_text(alloc, text, files)
     } else {
         formless_text(alloc, text)
     }
 }
 
 /// What a text with forms is expanded to, or its refusal.
-fn formed_text(alloc: Global, text: &[u8]) -> Result<Vec<u8>, Unexpanded>
+fn formed_text<F: Files>(alloc: Global, text: &[u8], files: &F) -> Result<Vec<u8>, Unexpanded>
     ensures text { IfOk result (λ out. (plain : List ℕ) × (expanded plain ≡ Ok out.items)) }
     ensures refused { IfErr result IsOfForms }
 {
     let body = without_comments(alloc, text)?;
-    match unfold(alloc, &body) {
-        Ok(written) => unfolded_text(alloc, body, &written),
+    match join(alloc, body, &Uncommented { files }) {
+        Ok(joined) => joined_text(alloc, &joined),
+        Err(JoinFault::Memory) => Err(Unexpanded::Memory),
+        Err(JoinFault::Refused(refused)) => Err(of_refusal(refused, TextFault::Syntax)),
+    }
+}
+
+/// Files, whose texts are given without comments.
+#[derive(Drop)]
+struct Uncommented<'f, F> {
+    files: &'f F,
+}
+
+impl<F: Files> Files for Uncommented<'_, F> {
+    fn path(&self) -> &str {
+        self.files.path()
+    }
+
+    fn text_of(&self, alloc: Global, path: &[u8]) -> Result<Option<Vec<u8>>, AllocError> {
+        match self.files.text_of(alloc, path)? {
+            Some(text) => Ok(Some(without_comments(alloc, &text)?)),
+            None => Ok(None),
+        }
+    }
+}
+
+/// Why a text isn't expanded that is refused with a fault at a place of it.
+fn of_refusal(refused: JoinRefusal, fault: TextFault) -> Unexpanded
+    ensures { (fault ≡ Syntax) ⊎ (fault ≡ Limit) → IsOfForms result }
+{
+    Unexpanded::Refused(Refusal {
+        fault,
+        body: refused.text,
+        at: refused.at,
+        sentence: refused.sentence,
+    })
+}
+
+/// What a text with the rules of the files that it uses is expanded to, or its refusal.
+fn joined_text(alloc: Global, joined: &Joined) -> Result<Vec<u8>, Unexpanded>
+    ensures text { IfOk result (λ out. (plain : List ℕ) × (expanded plain ≡ Ok out.items)) }
+    ensures refused { IfErr result IsOfForms }
+{
+    let text = joined.text();
+    match unfold(alloc, text) {
+        Ok(written) => unfolded_text(alloc, joined, &written),
         Err(RichFault::Memory) => Err(Unexpanded::Memory),
         Err(RichFault::Refused(reason, at)) => {
-            let sentence = sentence(alloc, reason, body.split_at(at.min(body.len())).1)?;
-            let fault = form_fault(reason);
-            Err(Unexpanded::Refused(Refusal {
-                fault,
-                body,
-                at,
-                sentence,
-            }))
+            let words = sentence(alloc, reason, text.split_at(at.min(text.len())).1)?;
+            let refused = joined.refused(alloc, at, &words)?;
+            Err(of_refusal(refused, form_fault(reason)))
         }
     }
 }
@@ -94,7 +133,7 @@ fn form_fault(reason: ic_rich::Reason) -> TextFault
 }
 
 /// What is expanded of what a text with forms is unfolded to, or its refusal.
-fn unfolded_text(alloc: Global, body: Vec<u8>, written: &Unfolded) -> Result<Vec<u8>, Unexpanded>
+fn unfolded_text(alloc: Global, joined: &Joined, written: &Unfolded) -> Result<Vec<u8>, Unexpanded>
     ensures text { IfOk result (λ out. (plain : List ℕ) × (expanded plain ≡ Ok out.items)) }
     ensures refused { IfErr result IsOfForms }
 {
@@ -102,14 +141,9 @@ fn unfolded_text(alloc: Global, body: Vec<u8>, written: &Unfolded) -> Result<Vec
         Ok(out) => Ok(out),
         Err(ExpandFault::Memory) => Err(Unexpanded::Memory),
         Err(ExpandFault::Refused(reason, at)) => {
-            let sentence = reason_sentence(alloc, reason)?;
-            let (fault, at) = (text_fault(reason), written.place_of(at));
-            Err(Unexpanded::Refused(Refusal {
-                fault,
-                body,
-                at,
-                sentence,
-            }))
+            let words = reason_sentence(alloc, reason)?;
+            let refused = joined.refused(alloc, written.place_of(at), &words)?;
+            Err(of_refusal(refused, text_fault(reason)))
         }
     }
 }

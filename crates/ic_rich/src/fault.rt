@@ -65,6 +65,14 @@ pub enum Reason {
     NotClosed,
     /// An earlier `let` has the name.
     LetAgain,
+    /// After `use` a path in quotes is looked for.
+    NoPath,
+    /// The file that is named can't be read.
+    NoFile,
+    /// Too many files are named.
+    ManyFiles,
+    /// The file that is named uses this one, too.
+    UseCircle,
 }
 
 impl Reason {

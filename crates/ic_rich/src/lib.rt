@@ -1,11 +1,12 @@
 //! Forms of rich texts that stand for others: rules by arrows, numbers, lists, pairs, and terms that `let` names.
 //!
-//! `unfold` writes a text without comments as one without these forms, which `ic_expand` expands. What it writes is
-//! tried, not proved: it is proved that it returns.
+//! `unfold` writes a text without comments as one without these forms, which `ic_expand` expands, and `join` puts into it the
+//! rules of the files that it uses. What they write is tried, not proved: it is proved that they return.
 #![tactic(auto)]
 
 mod arrows;
 mod fault;
+mod joined;
 mod lets;
 mod reader;
 mod segments;
@@ -15,9 +16,12 @@ mod signs;
 mod spans;
 mod tokens;
 mod unfolding;
+mod uses;
 mod wires;
 mod written;
 
 pub use fault::{Reason, RichFault};
+pub use joined::{JoinFault, JoinRefusal, Joined, join};
 pub use sentences::sentence;
 pub use unfolding::{Unfolded, unfold};
+pub use uses::Files;

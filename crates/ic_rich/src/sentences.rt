@@ -114,5 +114,12 @@ fn words_of(reason: Reason) -> (&'static [u8], &'static [u8]) {
             b" is none",
         ),
         Reason::LetAgain => (b"an earlier let names ", b" already"),
+        Reason::NoPath => (
+            b"a path in quotes is looked for here, as in use \"nat.rich\"",
+            b"",
+        ),
+        Reason::NoFile => (b"the file that is named here can't be read", b""),
+        Reason::ManyFiles => (b"a text uses at most 63 files", b""),
+        Reason::UseCircle => (b"the file that is named here uses this one, too", b""),
     }
 }

@@ -36,9 +36,16 @@ impl Sort {
     }
 }
 
-/// Whether a segment is a declaration.
+/// Whether a segment is a declaration, or names a file: in its place nothing is written.
 pub(crate) fn declares(text: &[u8], segment: Segment) -> bool {
-    segment.within && Sort::of(leading_word(segment.part_of(text))).is_some()
+    let word = leading_word(segment.part_of(text));
+    segment.within && (Sort::of(word).is_some() || word == b"use".as_slice())
+}
+
+/// Whether a segment holds for the whole text: a declaration, or one of a copier or an eraser.
+pub(crate) fn is_line(text: &[u8], segment: Segment) -> bool {
+    let word = leading_word(segment.part_of(text));
+    declares(text, segment) || word == b"copy".as_slice() || word == b"erase".as_slice()
 }
 
 /// Two symbols. Of a pair both are the same.

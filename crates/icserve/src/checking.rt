@@ -2,7 +2,7 @@
 
 use crate::input::{OF_PLAIN, is_rich_path};
 use crate::inspecting::open_to_read;
-use crate::texts::{read_limited, too_long};
+use crate::texts::{UsedFiles, read_limited, too_long};
 use ic_args::ReportFormat;
 use ic_causes::{NotedInput, NotedOutput, Notes, cause_line};
 use ic_check::{Given, Layout, Refused, Source, Verdict, check_files};
@@ -104,7 +104,8 @@ impl FileSource<'_> {
         if !self.asked.is_rich && !is_rich_path(path) && !is_marked(&bytes) {
             return Ok(Given::Text(bytes));
         }
-        match expand_text(alloc, &bytes) {
+        let files = UsedFiles { rt: self.rt, path };
+        match expand_text(alloc, &bytes, &files) {
             Ok(plain) => {
                 self.expanded.set(true);
                 Ok(Given::Text(plain))

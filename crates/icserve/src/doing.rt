@@ -3,6 +3,7 @@
 use crate::input::{self, Input, is_rich_path, open_text, tell_of_plain};
 use crate::keeping::{self, KeptIn};
 use crate::reducing::{self, Wanted, threads_for};
+use crate::texts::UsedFiles;
 use crate::{
     Clients, DiskAt, Making, attend, batching, checking, create, dumping, inspecting, looking,
     serve_session, show, texts,
@@ -86,7 +87,17 @@ type Opening<'a> = Opened<Text<'a>>;
 fn open_input<'a, T>(doing: &Doing<'a, '_, T>, told: &mut Vec<u8>) -> Result<Opening<'a>, Failure> {
     let is_said = doing.values.flag(&RICH) || doing.values.file(&FILE).is_some_and(is_rich_path);
     let input = open_given(doing)?;
-    ic_expand::open_text(doing.rt.alloc(), input, is_said, told).map_err(Failure::Stream)
+    let files = used_by(doing);
+    ic_expand::open_text(doing.rt.alloc(), input, is_said, &files, told).map_err(Failure::Stream)
+}
+
+/// The files that the text uses.
+fn used_by<'a, T>(doing: &Doing<'a, '_, T>) -> UsedFiles<'a> {
+    let path = match doing.values.file(&FILE) {
+        Some(path) => path,
+        None => "",
+    };
+    UsedFiles { rt: doing.rt, path }
 }
 
 /// The file that is named, or standard input, of which a terminal is told that a text is read from it.
@@ -138,7 +149,7 @@ fn draw<T>(doing: &Doing<'_, '_, T>, told: &mut Vec<u8>) -> Result<(), Failure> 
 
 fn expand<T>(doing: &Doing<'_, '_, T>, told: &mut Vec<u8>) -> Result<(), Failure> {
     let mut input = open_given(doing)?;
-    texts::expand(doing.rt, &mut input, doing.notes, told)
+    texts::expand(doing.rt, &mut input, &used_by(doing), doing.notes, told)
 }
 
 fn trace<T>(doing: &Doing<'_, '_, T>, told: &mut Vec<u8>) -> Result<(), Failure> {

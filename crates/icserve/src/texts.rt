@@ -1,8 +1,9 @@
 //! Texts in files, which have a bound on their length, and `expand`.
 
+use crate::inspecting::open_to_read;
 use ic_causes::{NotedOutput, Notes, shown_path};
 use ic_exits::Failure;
-use ic_expand::expand_stream;
+use ic_expand::{Files, expand_stream};
 use std::alloc::{AllocError, Global};
 use std::io::{self, Read};
 
@@ -37,14 +38,45 @@ pub(crate) fn too_long(alloc: Global, path: &str) -> Result<Vec<u8>, AllocError>
     Ok(line)
 }
 
+/// The files that a text uses, from the folder in which it stands.
+#[derive(Clone, Copy)]
+pub(crate) struct UsedFiles<'a> {
+    pub(crate) rt: &'a HostRuntime,
+    /// Its path, or nothing.
+    pub(crate) path: &'a str,
+}
+
+impl Files for UsedFiles<'_> {
+    fn path(&self) -> &str {
+        self.path
+    }
+
+    fn text_of(&self, alloc: Global, path: &[u8]) -> Result<Option<Vec<u8>>, AllocError> {
+        let Ok(path) = str::from_utf8(path) else {
+            return Ok(None);
+        };
+        let notes = Notes::new();
+        let read = match open_to_read(self.rt, path, &notes) {
+            Ok(file) => read_limited(alloc, file),
+            Err(error) => Err(error),
+        };
+        match read {
+            Ok(text) => Ok(text),
+            Err(error) if error.kind() == io::ErrorKind::OutOfMemory => Err(AllocError),
+            Err(_) => Ok(None),
+        }
+    }
+}
+
 /// Prints the text of the calculus for which a text stands. Where the text is refused, the lines that tell its place are
 /// appended to `told`.
 pub(crate) fn expand<R: Read>(
     rt: &HostRuntime,
     input: &mut R,
+    files: &UsedFiles<'_>,
     notes: &Notes,
     told: &mut Vec<u8>,
 ) -> Result<(), Failure> {
     let mut output = NotedOutput::new(io::writer(rt), notes);
-    expand_stream(rt.alloc(), input, &mut output, told).map_err(Failure::Stream)
+    expand_stream(rt.alloc(), input, &mut output, files, told).map_err(Failure::Stream)
 }

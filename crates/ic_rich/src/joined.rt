@@ -1,0 +1,392 @@
+//! A text with the rules of the files that it uses.
+
+use crate::fault::Reason;
+use crate::segments::{Segment, after_blanks, leading_word, part_of};
+use crate::sentences::sentence;
+use crate::signs::is_line;
+use crate::tokens::tokens_of;
+use crate::uses::{Files, Place, Source, Sources, UseFault, use_at};
+use std::alloc::{AllocError, AllocFailed, Global};
+
+/// How many bytes there are at most.
+const MAX_JOINED: usize = 16_777_216;
+
+/// From this place on what is written comes from that place of a text on.
+#[derive(Clone, Copy)]
+struct Part {
+    written: usize,
+    from: Place,
+}
+
+/// What is written of texts, and whence each part of it comes.
+#[derive(Drop)]
+struct Woven {
+    text: Vec<u8>,
+    parts: Vec<Part>,
+}
+
+/// A text with the rules of others.
+#[derive(Drop)]
+pub struct Joined {
+    sources: Vec<Source>,
+    woven: Woven,
+}
+
+/// A refusal, at a place of the text that is read.
+#[derive(Drop)]
+pub struct JoinRefusal {
+    pub text: Vec<u8>,
+    pub at: usize,
+    pub sentence: Vec<u8>,
+}
+
+/// Why texts aren't joined.
+#[derive(Drop)]
+pub enum JoinFault {
+    Refused(JoinRefusal),
+    /// A growth was refused.
+    Memory,
+}
+
+impl From<AllocError> for JoinFault {
+    fn from(_error: AllocError) -> JoinFault {
+        JoinFault::Memory
+    }
+}
+
+impl<T: Drop> From<AllocFailed<T>> for JoinFault {
+    fn from(_failed: AllocFailed<T>) -> JoinFault {
+        JoinFault::Memory
+    }
+}
+
+/// What a rule or a line of a text is told by: the two symbols of a rule, or all words of a line such as `copy Dup`.
+#[derive(Drop)]
+struct Head {
+    one: Vec<u8>,
+    other: Vec<u8>,
+    is_line: bool,
+    place: Place,
+}
+
+impl Head {
+    fn is_as(&self, head: &Head) -> bool {
+        let same = self.one == head.one && self.other == head.other;
+        let turned = self.one == head.other && self.other == head.one;
+        self.is_line == head.is_line && (same || turned)
+    }
+}
+
+/// The words of a line with one blank between.
+fn words_of(alloc: Global, part: &[u8]) -> Result<Vec<u8>, AllocError> {
+    let mut words = Vec::new(alloc);
+    for token in &tokens_of(alloc, part, 0)? {
+        words.extend_from_slice(token.text)?;
+        words.push(b' ')?;
+    }
+    Ok(words)
+}
+
+/// The symbol that stands second in a rule, or nothing.
+fn second_of(part: &[u8]) -> &[u8] {
+    for (place, byte) in part.iter().enumerate() {
+        if *byte == b'<' {
+            let (_, rest) = part.split_at(place);
+            let (_, rest) = rest.split_at(rest.len().min(1));
+            return leading_word(rest);
+        }
+    }
+    &part[..0]
+}
+
+/// What a segment of a text is told by.
+fn head_of(
+    alloc: Global,
+    text: &[u8],
+    segment: Segment,
+    source: usize,
+) -> Result<Head, AllocError> {
+    let part = segment.part_of(text);
+    let is_line = is_line(text, segment);
+    let at = segment.to.saturating_sub(after_blanks(part).len());
+    let (one, other) = if is_line {
+        (words_of(alloc, part)?, Vec::new(alloc))
+    } else {
+        (
+            leading_word(part).to_vec(alloc)?,
+            second_of(part).to_vec(alloc)?,
+        )
+    };
+    Ok(Head {
+        one,
+        other,
+        is_line,
+        place: Place { source, at },
+    })
+}
+
+/// The line of a place in a text, from 1.
+fn line_of(text: &[u8], at: usize) -> usize {
+    let front = part_of(text, 0, at);
+    front
+        .iter()
+        .filter(|byte| **byte == b'\n')
+        .count()
+        .saturating_add(1)
+}
+
+/// Appends the file of a place and its line.
+fn put_place(
+    alloc: Global,
+    sources: &[Source],
+    place: Place,
+    words: &mut Vec<u8>,
+) -> Result<(), AllocError> {
+    if let Some(source) = sources.get(place.source) {
+        let line = line_of(&source.text, place.at);
+        words.extend_from_slice(&source.path)?;
+        if !source.path.is_empty() {
+            words.extend_from_slice(b", ")?;
+        }
+        let told = format!(in alloc; "line {line}")?;
+        words.extend_from_slice(told.as_bytes())?;
+    }
+    Ok(())
+}
+
+/// What is said at a place, after the file and the line if it isn't one of the text that is read.
+fn said_at(
+    alloc: Global,
+    sources: &[Source],
+    place: Place,
+    words: &[u8],
+) -> Result<Vec<u8>, AllocError> {
+    let mut said = Vec::new(alloc);
+    if place.source > 0 {
+        said.extend_from_slice(b"in ")?;
+        put_place(alloc, sources, place, &mut said)?;
+        said.extend_from_slice(b": ")?;
+    }
+    said.extend_from_slice(words)?;
+    Ok(said)
+}
+
+/// The place of the text that is read at which another one is told.
+fn told_at(sources: &[Source], place: Place) -> usize {
+    match sources.get(place.source) {
+        Some(source) if place.source > 0 => source.root,
+        _ => place.at,
+    }
+}
+
+/// A refusal at a place, of which this is said.
+fn refusal(
+    alloc: Global,
+    sources: &[Source],
+    place: Place,
+    words: &[u8],
+) -> Result<JoinRefusal, AllocError> {
+    let text = match sources.first() {
+        Some(source) => source.text.to_vec(alloc)?,
+        None => Vec::new(alloc),
+    };
+    Ok(JoinRefusal {
+        text,
+        at: told_at(sources, place),
+        sentence: said_at(alloc, sources, place, words)?,
+    })
+}
+
+impl Woven {
+    /// Writes bytes that stand at a place.
+    fn put(&mut self, bytes: &[u8], from: Place) -> Result<(), UseFault> {
+        let written = self.text.len();
+        if written.saturating_add(bytes.len()) > MAX_JOINED {
+            return Err(UseFault::Refused(Reason::TooLong, from));
+        }
+        self.parts.push(Part { written, from })?;
+        Ok(self.text.extend_from_slice(bytes)?)
+    }
+
+    /// Writes a rule of another text after a `;`, with blanks in the place of ends of lines.
+    fn put_rule(&mut self, alloc: Global, part: &[u8], from: Place) -> Result<(), UseFault> {
+        let mut flat = Vec::new(alloc);
+        for byte in part {
+            let is_end = *byte == b'\n' || *byte == b'\r';
+            flat.push(if is_end { b' ' } else { *byte })?;
+        }
+        self.put(b";".as_slice(), from)?;
+        self.put(&flat, from)
+    }
+
+    /// The text and the place from which comes what stands at a place.
+    fn source_of(&self, at: usize) -> Place {
+        for part in self.parts.iter().rev() {
+            if part.written <= at {
+                let more = at.saturating_sub(part.written);
+                return Place {
+                    source: part.from.source,
+                    at: part.from.at.saturating_add(more),
+                };
+            }
+        }
+        Place { source: 0, at }
+    }
+}
+
+impl Joined {
+    /// The text with the rules of others.
+    pub fn text(&self) -> &[u8] {
+        &self.woven.text
+    }
+
+    /// The refusal at a place of it, of which this is said.
+    pub fn refused(
+        &self,
+        alloc: Global,
+        at: usize,
+        words: &[u8],
+    ) -> Result<JoinRefusal, AllocError> {
+        refusal(alloc, &self.sources, self.woven.source_of(at), words)
+    }
+}
+
+/// Whether a head isn't there yet. A rule that is there is refused.
+fn is_new(heads: &[Head], head: &Head) -> Result<bool, UseFault> {
+    for other in heads {
+        if other.is_as(head) {
+            return if head.is_line {
+                Ok(false)
+            } else {
+                Err(UseFault::Same(head.place, other.place))
+            };
+        }
+    }
+    Ok(true)
+}
+
+/// Whether a segment has a rule, or a line such as `copy Dup`.
+fn is_told(text: &[u8], segment: Segment) -> bool {
+    let is_empty = after_blanks(segment.part_of(text)).is_empty();
+    segment.within && !is_empty && use_at(text, segment).is_none()
+}
+
+/// What the rules of a text are told by.
+fn heads_of(alloc: Global, source: &Source) -> Result<Vec<Head>, AllocError> {
+    let mut heads = Vec::new(alloc);
+    for segment in &source.segments {
+        if is_told(&source.text, *segment) {
+            heads.push(head_of(alloc, &source.text, *segment, 0)?)?;
+        }
+    }
+    Ok(heads)
+}
+
+/// Writes the rules of a text that aren't there yet.
+fn weave_source(
+    alloc: Global,
+    source: &Source,
+    number: usize,
+    heads: &mut Vec<Head>,
+    woven: &mut Woven,
+) -> Result<(), UseFault> {
+    for segment in &source.segments {
+        if is_told(&source.text, *segment) {
+            let head = head_of(alloc, &source.text, *segment, number)?;
+            if is_new(heads, &head)? {
+                let from = Place {
+                    source: number,
+                    at: segment.from,
+                };
+                woven.put_rule(alloc, segment.part_of(&source.text), from)?;
+                heads.push(head)?;
+            }
+        }
+    }
+    Ok(())
+}
+
+/// Writes the rules of the texts that came by the `use` at a place.
+fn weave_used(
+    alloc: Global,
+    sources: &[Source],
+    root: usize,
+    heads: &mut Vec<Head>,
+    woven: &mut Woven,
+) -> Result<(), UseFault> {
+    for number in 1..sources.len() {
+        if let Some(source) = sources.get(number) {
+            if source.root == root {
+                weave_source(alloc, source, number, heads, woven)?;
+            }
+        }
+    }
+    Ok(())
+}
+
+/// Writes the first text, with the rules of the others after each `use`.
+fn weave(alloc: Global, sources: &[Source]) -> Result<Woven, UseFault> {
+    let mut woven = Woven {
+        text: Vec::new(alloc),
+        parts: Vec::new(alloc),
+    };
+    let Some(first) = sources.first() else {
+        return Ok(woven);
+    };
+    let mut heads = heads_of(alloc, first)?;
+    for segment in &first.segments {
+        let from = Place {
+            source: 0,
+            at: segment.from,
+        };
+        woven.put(segment.part_of(&first.text), from)?;
+        if let Some(at) = use_at(&first.text, *segment) {
+            weave_used(alloc, sources, at, &mut heads, &mut woven)?;
+        }
+        let end = Place {
+            source: 0,
+            at: segment.to,
+        };
+        let mark = part_of(&first.text, segment.to, segment.to.saturating_add(1));
+        woven.put(mark, end)?;
+    }
+    Ok(woven)
+}
+
+/// What is said where two rules have the same symbols.
+fn same_sentence(alloc: Global, sources: &[Source], other: Place) -> Result<Vec<u8>, AllocError> {
+    let mut words = Vec::from_slice(alloc, b"this rule's two symbols have a rule already: ")?;
+    put_place(alloc, sources, other, &mut words)?;
+    Ok(words)
+}
+
+/// A refusal, as it is told.
+fn told(alloc: Global, sources: &[Source], fault: UseFault) -> JoinFault {
+    let (place, words) = match fault {
+        UseFault::Memory => return JoinFault::Memory,
+        UseFault::Same(place, other) => (place, same_sentence(alloc, sources, other)),
+        UseFault::Refused(reason, place) => (place, sentence(alloc, reason, b"".as_slice())),
+    };
+    let Ok(words) = words else {
+        return JoinFault::Memory;
+    };
+    match refusal(alloc, sources, place, &words) {
+        Ok(refused) => JoinFault::Refused(refused),
+        Err(_) => JoinFault::Memory,
+    }
+}
+
+/// A text without comments, with the rules of the files that it uses.
+pub fn join<F: Files>(alloc: Global, text: Vec<u8>, files: &F) -> Result<Joined, JoinFault> {
+    let mut sources = Sources::new(alloc);
+    if let Err(fault) = sources.find(alloc, text, files) {
+        return Err(told(alloc, &sources.all, fault));
+    }
+    match weave(alloc, &sources.all) {
+        Ok(woven) => Ok(Joined {
+            sources: sources.all,
+            woven,
+        }),
+        Err(fault) => Err(told(alloc, &sources.all, fault)),
+    }
+}
