@@ -1,6 +1,6 @@
-//! A round that was made for a flight.
+//! Rounds that were made for a flight, and the flight after one.
 
-ghost use Rattle.std.specs.Prelude.{◌≡◌, ◌<◌, IsTrue, IfOk};
+ghost use Rattle.std.specs.Prelude.{◌≡◌, ◌+◌, ◌<◌, IsTrue, IfOk};
 ghost use Rattle.ic_term.specs.Symbol.{is_over};
 ghost use Rattle.ic_round.specs.Rounds.{fits, round};
 ghost use Rattle.ic_flights.specs.Played.{round_of};
@@ -23,4 +23,19 @@ pub fn made_for(alloc: Global, flight: &Flight, after: Flat) -> Result<Played, A
     let rules = flight.shared_rules().clone()?;
     let rounds = flight.rounds();
     Ok(Played::new(alloc, flight.name(), rules, before, after, rounds)?)
+}
+
+/// The flight of the next round of a job at a place, after one that was made.
+pub fn next_flight(place: usize, made: &Played) -> Result<Flight, AllocError>
+    ensures { IfOk result (λ next. next ≡ record {
+      place = place;
+      name = made.now.name;
+      rules = made.now.rules;
+      config = made.now.after;
+      rounds = made.now.rounds + 1;
+    }) }
+{
+    let rules = made.shared_rules().clone()?;
+    let config = made.shared_after().clone()?;
+    Ok(Flight::new(place, made.name(), rules, config, made.rounds() + 1))
 }

@@ -112,6 +112,22 @@ impl Played {
         &self.after
     }
 
+    /// The rules with their words, to be shared.
+    pub(crate) fn shared_rules(&self) -> &Arc<FlatRules>
+        ensures rules { arc_value result.now ≡ self.now.rules }
+        ensures sound { IsPlayed self.now }
+    {
+        &self.rules
+    }
+
+    /// The configuration after the round, to be shared.
+    pub(crate) fn shared_after(&self) -> &Arc<Flat>
+        ensures after { arc_value result.now ≡ self.now.after }
+        ensures sound { IsPlayed self.now }
+    {
+        &self.after
+    }
+
     /// How many rounds the job had made before this one.
     pub fn rounds(&self) -> u64
         ensures rounds { result ≡ self.now.rounds }

@@ -40,16 +40,17 @@ impl Hands {
         })
     }
 
-    /// The rounds of flights in their order, each none where it can't be made. This thread works too.
+    /// So many rounds of each flight, the last one first, or as many of them as can be made. This thread works too.
     pub fn make<R: Wait>(
         &self,
         rt: &R,
         alloc: Global,
         flights: Vec<Flight>,
+        rounds: usize,
         workspace: &mut Workspace,
-    ) -> Result<Vec<Option<Played>>, AllocError> {
+    ) -> Result<Vec<Vec<Played>>, AllocError> {
         let mut made = nothing(alloc, flights.len())?;
-        let sent = self.send(rt, flights);
+        let sent = self.send(rt, flights, rounds);
         let mut left = sent;
         for _ in 0..sent {
             let Ok(task) = self.waiting.try_recv(rt) else {
@@ -63,10 +64,15 @@ impl Hands {
     }
 
     /// Sends a task for each flight. Answers how many went out.
-    fn send<R: Wait>(&self, rt: &R, flights: Vec<Flight>) -> usize {
+    fn send<R: Wait>(&self, rt: &R, flights: Vec<Flight>, rounds: usize) -> usize {
         let mut sent: usize = 0;
         for (place, flight) in flights.into_iter().enumerate() {
-            if self.tasks.send(rt, Task { place, flight }).is_err() {
+            let task = Task {
+                place,
+                flight,
+                rounds,
+            };
+            if self.tasks.send(rt, task).is_err() {
                 return sent;
             }
             sent = sent.saturating_add(1);
@@ -75,7 +81,7 @@ impl Hands {
     }
 
     /// Takes what came of so many tasks.
-    fn gather<R: Wait>(&self, rt: &R, count: usize, made: &mut Vec<Option<Played>>) {
+    fn gather<R: Wait>(&self, rt: &R, count: usize, made: &mut Vec<Vec<Played>>) {
         for _ in 0..count {
             let Ok(done) = self.done.recv(rt) else {
                 return;
@@ -129,19 +135,19 @@ fn start_each<R: Threads + Wait + Copy + Send + 'static>(
     }
 }
 
-/// So many rounds that aren't made.
-fn nothing(alloc: Global, count: usize) -> Result<Vec<Option<Played>>, AllocError> {
+/// No rounds of so many flights.
+fn nothing(alloc: Global, count: usize) -> Result<Vec<Vec<Played>>, AllocError> {
     let mut made = Vec::with_capacity(alloc, count)?;
     for _ in 0..count {
-        made.push(None)?;
+        made.push(Vec::new(alloc))?;
     }
     Ok(made)
 }
 
 /// Puts what came of a task in its place.
-fn put(made: &mut Vec<Option<Played>>, done: Done) {
-    let Done { place, played } = done;
-    if place < made.len() {
-        made[place] = played;
+fn put(all: &mut Vec<Vec<Played>>, done: Done) {
+    let Done { place, made } = done;
+    if place < all.len() {
+        all[place] = made;
     }
 }

@@ -2,23 +2,25 @@
 
 use crossbeam_channel::{Receiver, Sender};
 use ic_flat_round::Workspace;
-use ic_flights::{Flight, Played};
+use ic_flat_rules::quiet;
+use ic_flights::{Flight, Played, next_flight};
 use ic_pool::play_in;
-use std::alloc::Global;
+use std::alloc::{AllocError, Global};
 use std::sync::Wait;
 
-/// A round that is to be made, and its place in the lap.
+/// Rounds that are to be made, so many from a flight on, and the place of that in the lap.
 #[derive(Drop)]
 pub(crate) struct Task {
     pub place: usize,
     pub flight: Flight,
+    pub rounds: usize,
 }
 
-/// What became of a task: the round, or none where it can't be made.
+/// What became of a task: the rounds that were made, the last one first.
 #[derive(Drop)]
 pub(crate) struct Done {
     pub place: usize,
-    pub played: Option<Played>,
+    pub made: Vec<Played>,
 }
 
 /// A worker's ends: tasks come to all workers in one line, and what becomes of them goes back in another.
@@ -29,15 +31,42 @@ pub(crate) struct Post {
 }
 
 impl Task {
-    /// Makes the round.
+    /// Makes the rounds, until one can't be made or none is left to be made. Without memory there are fewer.
     pub fn done(self, alloc: Global, workspace: &mut Workspace) -> Done {
-        let Task { place, flight } = self;
-        let played = play_in(alloc, &flight, workspace).ok();
-        Done { place, played }
+        let Task {
+            place,
+            flight,
+            rounds,
+        } = self;
+        let mut made = Vec::new(alloc);
+        let _ = make_each(alloc, flight, rounds, workspace, &mut made);
+        made.reverse();
+        Done { place, made }
     }
 }
 
-/// A worker's loop: it takes a task, makes its round, and sends back what came of it. It ends when the lap is gone.
+/// Makes rounds one after the other.
+fn make_each(
+    alloc: Global,
+    mut flight: Flight,
+    rounds: usize,
+    workspace: &mut Workspace,
+    made: &mut Vec<Played>,
+) -> Result<(), AllocError> {
+    for _ in 0..rounds {
+        let Ok(played) = play_in(alloc, &flight, workspace) else {
+            return Ok(());
+        };
+        flight = next_flight(flight.place(), &played)?;
+        made.push(played)?;
+        if quiet(flight.rules(), flight.config()) {
+            return Ok(());
+        }
+    }
+    Ok(())
+}
+
+/// A worker's loop: it takes a task, makes its rounds, and sends back what came of it. It ends when the lap is gone.
 pub(crate) fn stand<R: Wait>(rt: &R, alloc: Global, post: Post) {
     let mut workspace = Workspace::new(alloc);
     for _ in rt.forever() {

@@ -6,8 +6,17 @@ pub const MAX_LINES: usize = 1_000_000;
 /// What the entries of a page weigh, in units of 1,024 bytes, before a new page begins: 64 MB.
 pub const PAGE_WEIGHT: u64 = 65_536;
 
-/// A lap of fewer equations is left to the thread that serves, since workers would take longer.
+/// A lap of fewer equations, those of each round counted, is left to the thread that serves, since workers would take longer.
 pub(crate) const ENOUGH: usize = 1_000;
+
+/// So is one of fewer equations for each job.
+pub(crate) const ENOUGH_EACH: usize = 8;
 
 /// So is one of more words than these for each equation.
 pub(crate) const MOST_WORDS: usize = 64;
+
+/// A lap makes so many rounds of each job that these are the words of all, as they stand before it.
+pub(crate) const LAP_WORDS: usize = 262_144;
+
+/// But no more than these.
+pub(crate) const MOST_ROUNDS: usize = 256;

@@ -6,7 +6,7 @@ ghost use Rattle.ic_pool.specs.Played.{played};
 ghost use Rattle.ic_pool.specs.PoolFault.{Answers};
 ghost use Rattle.ic_pool.specs.Workers.{ByWorkers, played_by};
 
-use crate::limits::{ENOUGH, MOST_WORDS};
+use crate::limits::{ENOUGH, ENOUGH_EACH, LAP_WORDS, MOST_ROUNDS, MOST_WORDS};
 use ic_book::Book;
 use ic_disk::Disk;
 use ic_flat_round::Workspace;
@@ -18,8 +18,8 @@ use std::alloc::{AllocError, Global};
 use std::sync::Wait;
 use std::thread::Threads;
 
-/// Who makes the rounds of a serving: its own thread, in lists that are kept, and workers that make laps: the next round of
-/// each of several jobs, before it is asked for.
+/// Who makes the rounds of a serving: its own thread, in lists that are kept, and workers that make laps: the next rounds of
+/// each of several jobs, before they are asked for.
 #[derive(Drop)]
 pub struct Makers {
     workspace: Workspace,
@@ -51,17 +51,19 @@ impl Makers {
         after: usize,
         workers: usize,
     ) {
-        if workers == 1 || self.wanted < 2 || !self.laps.is_empty() {
+        if workers == 1 || self.wanted < 2 || !self.laps.is_spent() {
             return;
         }
-        if !is_worth_it(book.table().jobs()) {
+        let load = Load::of(book.table().jobs());
+        let rounds = load.rounds(self.wanted);
+        if !load.is_worth_it(rounds) {
             return;
         }
         let most = self.wanted.min(MAX_JOBS as u64) as usize;
         // Without memory no round is made ahead.
         if let Ok(flights) = flights_from(alloc, book, after, most) {
             self.laps
-                .make(rt, alloc, flights, workers, &mut self.workspace);
+                .make(rt, alloc, flights, rounds, workers, &mut self.workspace);
         }
     }
 
@@ -85,19 +87,49 @@ impl Makers {
     }
 }
 
-/// Whether several threads gain by a lap: at least two jobs run, with enough equations together, and with few words for each of
-/// them. Where rounds copy large nets and do little else, threads lose time by the memory that one takes and another gives back.
-fn is_worth_it(jobs: &[Job]) -> bool {
-    let (mut running, mut equations, mut words) = (0_usize, 0_usize, 0_usize);
-    for job in jobs {
-        if job.state() == State::Running {
-            let config = job.config();
-            running = running.saturating_add(1);
-            equations = equations.saturating_add(config.equations_len());
-            words = words.saturating_add(config.words().len());
+/// How many jobs run, and how many equations and words they have together.
+#[derive(Clone, Copy)]
+struct Load {
+    running: usize,
+    equations: usize,
+    words: usize,
+}
+
+impl Load {
+    fn of(jobs: &[Job]) -> Load {
+        let (mut running, mut equations, mut words) = (0_usize, 0_usize, 0_usize);
+        for job in jobs {
+            if job.state() == State::Running {
+                let config = job.config();
+                running = running.saturating_add(1);
+                equations = equations.saturating_add(config.equations_len());
+                words = words.saturating_add(config.words().len());
+            }
+        }
+        Load {
+            running,
+            equations,
+            words,
         }
     }
-    running > 1 && equations >= ENOUGH && words / MOST_WORDS <= equations
+
+    /// How many rounds of each job a lap makes, where so many are wanted of all: fewer of large nets, since those that wait
+    /// are held, and a line waits for the lap.
+    fn rounds(self, wanted: u64) -> usize {
+        let each = wanted / (self.running.max(1) as u64);
+        let most = (LAP_WORDS / self.words.max(1)).min(MOST_ROUNDS).max(1);
+        each.min(most as u64).max(1) as usize
+    }
+
+    /// Whether several threads gain by a lap of so many rounds: at least two jobs run, with enough equations together and for
+    /// each of them, and with few words for each equation. Where rounds copy large nets and do little else, threads lose time
+    /// by the memory that one takes and another gives back, and where they do next to nothing, by handing them on.
+    fn is_worth_it(self, rounds: usize) -> bool {
+        self.running > 1
+            && self.equations.saturating_mul(rounds) >= ENOUGH
+            && self.equations / self.running >= ENOUGH_EACH
+            && self.words / MOST_WORDS <= self.equations
+    }
 }
 
 /// The flights that are due from a place on, one for each job, at most so many.
