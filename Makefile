@@ -2,13 +2,13 @@
 .ONESHELL:
 .SILENT:
 .SHELLFLAGS = -ec
-.PHONY: help build prove check trials install uninstall dist bench clean icserve
+.PHONY: help build prove check trials install uninstall dist bench bench-clients clean icserve
 PREFIX = $(HOME)/.local
 # Where below PREFIX this Python looks for packages.
 PACKAGES = $(shell python3 -c 'import sysconfig; print(sysconfig.get_path("purelib", "posix_prefix", {"base": ""}).lstrip("/"))')
 
 help: # lists these
-	sed -n 's/^\([a-z]*\): #/make \1: /p' Makefile
+	sed -n 's/^\([a-z-]*\): #/make \1: /p' Makefile
 build: # builds the program with nothing proved, in about two minutes; the first ./icserve does so too
 	ICSERVE_BUILD=unproved ./icserve
 prove: # proves and builds the program, in half an hour to an hour on 4 cores; from then on ./icserve runs it
@@ -46,6 +46,10 @@ bench: # times the program on the systems of docs/speed.md, beside a plain one w
 	mkdir -p out
 	! command -v cc >/dev/null || cc -O2 -o out/plain bench/plain.c
 	python3 bench "$$(ICSERVE_BUILD=found ./icserve)" $$([ ! -x out/plain ] || echo --plain out/plain) $(WITH)
+bench-clients: # times a server: changes in a second of 1, 8 and 64 clients, also where syncs are slow, and rounds by several threads; WITH=.. hands on words
+	mkdir -p out
+	! command -v cc >/dev/null || cc -O1 -shared -fPIC -o out/shim.so trials/shim.c -ldl -lpthread
+	python3 bench/clients.py "$$(ICSERVE_BUILD=found ./icserve)" $$([ ! -x out/shim.so ] || echo --shim out/shim.so) $(WITH)
 clean: # removes what was built, and what is kept of proofs
 	rm -rf out crates/*/out
 

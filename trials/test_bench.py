@@ -1,4 +1,4 @@
-"""`make bench` times the program on each of its systems: here on tiny ones."""
+"""`make bench` times the program on each of its systems, and `make bench-clients` a server: here on tiny ones."""
 
 import os
 import re
@@ -43,6 +43,22 @@ class Bench(Trial):
             self.equals(what, "whether it tells interactions", row.pairs > 0 or row.is_in_place(), rate != "-")
             self.equals(what, "how many figures of the plain program there are", 3 * HAS_COMPILER, len(plain))
             self.equals(what, "whether they are told", HAS_COMPILER and row.is_in_place(), "-" not in (plain or ["-"]))
+
+    def test_each_figure_of_a_server_is_printed(self):
+        (self.room / "trials").mkdir()
+        for it in ("listen", "trials/shim.c"):
+            shutil.copy(TOP / it, self.room / it)
+        words = "--turns 1 --seconds 0.2 --clients 4 --groups 8 64 --workers 1 2 --size 0.01"
+        command = ["make", "-s", "bench-clients", f"WITH={words}"]
+        ran = subprocess.run(command, cwd=self.room, stdin=subprocess.DEVNULL, capture_output=True, text=True, timeout=120)
+        self.equals(" ".join(command), "status and standard error", (0, ""), (ran.returncode, ran.stderr))
+        found = [[it.strip() for it in line.strip("|").split("|")] for line in ran.stdout.splitlines() if re.match(r"\| \w", line)]
+        disks = ["in memory", *["in memory, syncs of 5 ms more"] * HAS_COMPILER, "on this disk"]
+        wanted = ["disk", *(it for it in disks for _ in range(2)), "jobs, pairs of each, rounds of each"]
+        self.equals("make bench-clients", "what the rows begin with", wanted, [it[0] for it in found[: len(wanted)]])
+        self.equals("make bench-clients", "how many rows of laps there are", 4, len(found) - len(wanted))
+        for cells in found[1 : len(wanted) - 1] + found[len(wanted) :]:
+            self.equals(cells, "whether each cell has a figure", True, all(re.fullmatch(r"[\d,.]+", it) for it in cells[-2:]))
 
     def test_another_program_stands_beside_and_one_that_answers_otherwise_is_told(self):
         for other, more in ((PROGRAM, []), (shutil.which("true"), ["answers otherwise"])):
