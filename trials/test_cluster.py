@@ -175,6 +175,9 @@ class Scripts(Shards):
         rows = [it.split("|")[1].strip() for it in ran.out.decode().splitlines() if it.startswith("| ")]
         ways = [f"`icserve reduce {words}` without disks, {it} at a time" for words in ("--workers 1", "--rounds 1000000") for it in (1, 2, 4)]
         self.equals(ran.command, "the rows without disks", ways, [it for it in rows if "without disks" in it])
+        ways = [f"one server, one disk, {it} workers" for it in (1, 2, 4)]
+        self.equals(ran.command, "the rows of a server", ways, [it for it in rows if "one server" in it])
+        self.assertRegex(ran.out.decode(), r"\nBy 4 workers one server takes \d+\.\d\d times as long as 4 shards at a time\.\n")
 
     def test_progress_tells_stuck_jobs_of_answers_and_disks(self):
         """Of answers and of disks alike, those jobs are stuck that are done with an equation of two agents."""
