@@ -1,5 +1,5 @@
 -- Lines that are answered at once: one line, or a group.
-use Rattle.std.proofs.Common.{◌≡◌, ◌⊎◌, inl, inr, ℕ, ◌+◌, ◌<◌, ◌≤◌, List, [], ◌∷◌, ◌++◌, Result, Ok, Err, length, map, refl, sym, ap, ap₂, ◌∙◌, arith}
+use Rattle.std.proofs.Common.{◌≡◌, ◌⊎◌, inl, inr, ℕ, ◌+◌, ◌<◌, ◌≤◌, List, [], ◌∷◌, Result, Ok, Err, length, map, refl, ◌∙◌, arith}
 use Rattle.std.specs.Prelude.{IfErr, IfOk, OnErr, OnOk, false}
 use Rattle.ic_disk.specs.declared.disk.Disk.{Ghosts}
 use Rattle.ic_jobs.specs.Job.{JobParts}
@@ -7,12 +7,12 @@ use Rattle.ic_jobs.specs.declared.command.Command.{Command}
 use Rattle.ic_jobs.specs.declared.event.Event.{Event}
 use Rattle.ic_commands.specs.LineText.{ReadsLine}
 use Rattle.ic_commands.specs.declared.line.Line.TheVariants.{Command as Asks}
-use Rattle.ic_lines.specs.Answers.{Reading, after, events, out}
+use Rattle.ic_lines.specs.Answers.{Reading, events}
 use Rattle.ic_lines.specs.Taking.{BufferParts}
 use Rattle.ic_book.specs.declared.book.Book.{Book}
 use Rattle.ic_book.specs.Book.{is_broken, table_of}
 use Rattle.ic_serving.specs.declared.fault.ServeFault.{ServeFault}
-use Rattle.ic_serving.specs.Answered.{AreTaken, AskFor, by_group, by_line}
+use Rattle.ic_serving.specs.Answered.{AskFor, by_group, by_line}
 use Rattle.ic_serving.specs.Booked.{last_kept, Begins, IsAllKept}
 use Rattle.ic_serving.specs.Faults.{ComesFor, ComesWithoutRound}
 use Rattle.ic_serving.specs.Moments.{Leaves}
@@ -21,6 +21,7 @@ use Rattle.ic_serving.specs.inner.Group.{IsGroupBegun, IsGroupDone, IsNextAnswer
 use Rattle.ic_serving.specs.inner.Reading.{IsAnsweredAs}
 use Rattle.ic_serving.specs.lemmas.Leaving.{leaves_more}
 use Rattle.ic_serving.specs.lemmas.Reaching.{SomeWay, kept_or_same}
+use Rattle.ic_serving.specs.lemmas.Taken.{taken_out}
 use Rattle.ic_serving.proofs.GroupLemmas.{passed_none}
 use Rattle.ic_serving.proofs.ReadingLemmas.{line_answered}
 use Rattle.ic_serving.proofs.ServeLemmas.{Joined, few_group, few_line, served_line}
@@ -37,17 +38,6 @@ group_within law some most t kept line ls c cs less reads asks u (inl same) = in
 group_within law some most t kept line ls c cs less reads asks u (inr part) = inr (few_group law some most t u line ls c cs less reads asks part)
 
 module _ {D : Type 0} {ghosts : Ghosts D} where
-  -- what commands are answered that are taken in turn, and what they leave
-  taken_out : (cs : List Command) (bytes : List ℕ) (first last : Book D ghosts) → AreTaken cs bytes first last
-      → (bytes ≡ out (table_of first) (map (λ (c : Command). Ok (Asks c)) cs)) × (table_of last ≡ after (table_of first) (map (λ (c : Command). Ok (Asks c)) cs))
-  taken_out [] bytes first last x = (x.0, x.1)
-  taken_out (c ∷ cs) bytes first last x =
-      let rest = taken_out cs x.2 x.0 last x.5 in
-      let rs = map (λ (d : Command). Ok (Asks d)) cs in (
-        x.3 ∙ ap₂ (λ (a b : List ℕ). a ++ b) x.4.answer (rest.0 ∙ ap (λ (t : List JobParts). out t rs) x.4.table),
-        rest.1 ∙ ap (λ (t : List JobParts). after t rs) x.4.table,
-      )
-
   module _ (law : Joined) (some : SomeWay) (most : ℕ) (before after : BufferParts) (old new : Book D ghosts) where
     done_answered : (first : Command) (bytes : List ℕ) (count : ℕ) → ReadsLine before.line (Ok (Asks first)) → IsGroupDone most first before after bytes count old new
         → IsAllKept new → is_broken new ≡ false → IsNextAnswered most before after bytes count old new

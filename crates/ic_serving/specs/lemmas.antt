@@ -3,3 +3,4 @@ pub mod Reaching
 pub mod Leaving
 pub mod Unkept
 pub mod Making
+pub mod Taken

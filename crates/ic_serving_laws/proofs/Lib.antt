@@ -1,5 +1,4 @@
 pub mod CallLemmas
-pub mod GroupLemmas
 pub mod PartLemmas
 pub mod RoundLemmas
 pub mod ServedLemmas

@@ -2,7 +2,7 @@ use Rattle.std.proofs.Common.{Ok, map, ap, ◌∙◌}
 use Rattle.ic_jobs.specs.Job.{JobParts}
 use Rattle.ic_jobs.specs.declared.command.Command.{Command}
 use Rattle.ic_commands.specs.declared.line.Line.TheVariants.{Command as Asks}
-use Rattle.ic_serving_laws.proofs.GroupLemmas.{taken_out}
+use Rattle.ic_serving.specs.lemmas.Taken.{taken_out}
 use Rattle.ic_serving_laws.proofs.groups.a_group_is_answered_as_it_is_served.Goals as goal
 
 pub returns-clause-served : goal.returns-clause-served
