@@ -10,7 +10,6 @@ MOST = 16_777_216
 SENTENCES = {
     "text": "a text begins with { or <, and a comment with #; lines for serve aren't expanded",
     "word": "copy and erase need a symbol: A to Z or 0 to 9, and then letters and digits",
-    "symbol": "copy and erase need a symbol that stands in a term, and this one stands in none: write it where it has to copy or erase",
     "copier": "copy needs a symbol with two arguments, and this one has COUNT where it stands first",
     "eraser": "erase needs a symbol without arguments, and this one has COUNT where it stands first",
     "again": "an earlier copy or erase has this symbol",
@@ -56,6 +55,9 @@ WORKED = {
         "{\n copy # this\n D\n;\nA><B} <|D(a,a)=A>",
         "{\n  \n D(A,A)><A;D(B,B)><B;D(a,b)><D(a,b)\n;\nA><B} <|D(a,a)=A>",
     ),
+    "a copier that stands in no term": ("{copy D} <|A=B>", "{ D(A,A)><A;D(B,B)><B;D(a,b)><D(a,b)} <|A=B>"),
+    "an eraser that stands in no term": ("{ erase\nE} <|A(x)=x>", "{ \nE><A(E);E><E} <|A(x)=x>"),
+    "two that stand in no term": ("{copy D;erase E} <|>", "{ D(a,b)><D(a,b);D(E,E)><E; E><E} <|>"),
     "a symbol in rules alone": ("{copy D;D(D(a,b),b)><T(a)} <|>", "{ D(a,b)><D(a,b);D(D(a,b),b)><T(a)} <|>"),
 }
 
@@ -64,8 +66,6 @@ REFUSED = {
     "a line": ("submit two {A><B} <|A=B>", (1, 1), "text"),
     "a line after a comment": ("# a session\n\tlist # all\nrun 3\n", (2, 2), "text"),
     "another byte": (" =<|>", (1, 2), "text"),
-    "an unknown copier": ("{copy D} <|A=B>", (1, 7), "symbol"),
-    "an unknown eraser": ("{ erase\nE} <|A=B>", (2, 1), "symbol"),
     "a copier of three": ("{copy D} <|D(a,b,c)=D(a,b,c)>", (1, 7), ("copier", 3)),
     "a copier of none": ("{copy D} <|D=D>", (1, 7), ("copier", 0)),
     "a copier of three in a rule": ("{A><D(a,b,c);copy D} <|D(a,b)=A>", (1, 19), ("copier", 3)),
@@ -81,7 +81,7 @@ REFUSED = {
     "a rule": ("{erase E >< E} <|E=Z>", (1, 10), "end"),
     "the end of rules": ("{erase E <|E=Z>", (1, 10), "end"),
     "another symbol": ("{erase E E} <|E=Z>", (1, 10), "end"),
-    "the first of two": ("{copy A;copy B} <|>", (1, 7), "symbol"),
+    "the first of two": ("{copy a;copy b} <|>", (1, 7), "word"),
 }
 
 
@@ -179,6 +179,9 @@ def model(text):
     for spot, piece, at in spots:
         if is_symbol(piece) and spot not in (b"copy", b"erase") and piece not in symbols and len(symbols) < 64:
             symbols[piece] = arguments(body[at + len(piece) :])
+    for spot, piece, at in spots:
+        if is_symbol(piece) and spot in (b"copy", b"erase") and piece not in symbols and len(symbols) < 64:
+            symbols[piece] = {b"copy": 2, b"erase": 0}[spot]
     given = set()
     heads = [(piece, at) for spot, piece, at in spots if spot == "first" and is_symbol(piece)][:256]
     for head, at in heads:
@@ -191,8 +194,7 @@ def model(text):
         elif spot in (b"copy", b"erase"):
             if symbols.get(piece) != {b"copy": 2, b"erase": 0}[spot]:
                 lack = "copier" if spot == b"copy" else "eraser"
-                unknown = "symbol" if is_symbol(piece) else "word"
-                raise Refused(at, (lack, symbols[piece]) if piece in symbols else unknown)
+                raise Refused(at, (lack, symbols[piece]) if piece in symbols else "word")
             others = [] if piece in earlier else [
                 (it, arity) for it, arity in symbols.items()
                 if len(it) <= 32 and arity <= 15 and frozenset((piece, it)) not in given and it not in earlier

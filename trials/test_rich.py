@@ -85,9 +85,9 @@ REFUSED = {
     "a let with a name": ("{} let two = A(x) <|>", (1, 16), "what let names has no names but those of an earlier let: x is none"),
     "a let of two terms": ("{} let two = A B <|>", (1, 16), "after the term of a let another let or the configuration is looked for"),
     "two lets of a name": ("{} let two = A; let two = B <|>", (1, 21), "an earlier let names two already"),
-    "a fault after a number": ("{number S Z; A(x)><B=>x~4;copy Dup} <|>", (1, 32), "copy and erase need a symbol that stands in a term, and this one stands in none: write it where it has to copy or erase"),
-    "of a copier in the same text": ("{A(x) >< B => x~C;\ncopy Dup} <|>", (2, 6), "copy and erase need a symbol that stands in a term, and this one stands in none: write it where it has to copy or erase"),
-    "of a copier on the same line": ("{A(x)><B=>x~C;copy Dup} <|>", (1, 20), "copy and erase need a symbol that stands in a term, and this one stands in none: write it where it has to copy or erase"),
+    "a fault after a number": ("{number S Z; A(x)><B=>x~4;copy dup} <|>", (1, 32), "copy and erase need a symbol: A to Z or 0 to 9, and then letters and digits"),
+    "of a copier in the same text": ("{A(x) >< B => x~C;\ncopy dup} <|>", (2, 6), "copy and erase need a symbol: A to Z or 0 to 9, and then letters and digits"),
+    "of a copier on the same line": ("{A(x)><B=>x~C;copy dup} <|>", (1, 20), "copy and erase need a symbol: A to Z or 0 to 9, and then letters and digits"),
 }
 
 # What is told of each fault that is drawn.

@@ -24,17 +24,17 @@ class Use(Trial):
     def test_the_rules_of_a_file_come_in_its_place(self):
         self.file("lib/nat.rich", "#rich\n# a comment\n" + NAT)
         path = self.file("sums/sum.rich", '{\n use "../lib/nat.rich";\n Two(r) >< T => r ~ 2}\n\n<a,b|Add(4,a)=3,Two(b)=T>')
-        self.runs("reduce", path, out=["<S(S(S(S(S(S(S(Z))))))),S(S(Z))|>"])
+        self.runs("reduce", path, out=["<7,2|>"])
         plain = run("expand", path)
         self.equals(plain.command, "status, and how many lines", (0, 4), (plain.status, plain.out.count(b"\n")))
         self.runs("reduce", given=plain.out, out=["<S(S(S(S(S(S(S(Z))))))),S(S(Z))|>"])
         self.equals(f"check {path}", "status", 0, run("check", path).status)
         whole = self.file("whole.rich", f'{{use "{self.room}/lib/nat.rich"}} <r|Add(1,r)=1>')
-        self.runs("reduce", whole, out=["<S(S(Z))|>"])
+        self.runs("reduce", whole, out=["<2|>"])
 
     def test_standard_input_has_the_folder_in_which_the_program_runs(self):
         self.file("nat.rich", NAT)
-        self.runs("reduce", "--rich", given='{use "nat.rich"} <r|Add(1,r)=1>', cwd=self.room, out=["<S(S(Z))|>"])
+        self.runs("reduce", "--rich", given='{use "nat.rich"} <r|Add(1,r)=1>', cwd=self.room, out=["<2|>"])
 
     def test_each_file_comes_once(self):
         self.file("nat.rich", NAT)
@@ -44,7 +44,7 @@ class Use(Trial):
         self.file("d/e.rich", "{E >< T;}")
         text = '{use "b.rich"; use "b.rich"; A >< T; use "nat.rich"} <b|B(b)=T,A=T>'
         path = self.file("main.rich", text)
-        self.runs("reduce", path, out=["<S(S(S(Z)))|>"])
+        self.runs("reduce", path, out=["<3|>"])
         plain = run("expand", path).out
         self.equals(f"expand {path}", "how often a rule of nat.rich stands", 1, plain.count(b"Add(x,x)><Z") + plain.count(b"Add(y,y)><Z"))
 
@@ -77,8 +77,8 @@ class Use(Trial):
         self.is_refused(path, (3, 3), f"in {bad}, line 3: a name that isn't left of => stands right of it twice: y stands once")
         self.file("bad.rich", '{use "worse.rich"}')
         self.is_refused(path, (3, 3), f"in {bad}, line 1: the file that is named here can't be read")
-        worse = self.file("worse.rich", "{A >< B;\ncopy Dup} <|>")
-        self.is_refused(path, (3, 3), f"in {worse}, line 2: copy and erase need a symbol that stands in a term, and this one stands in none: write it where it has to copy or erase")
+        worse = self.file("worse.rich", "{A >< B;\ncopy dup} <|>")
+        self.is_refused(path, (3, 3), f"in {worse}, line 2: copy and erase need a symbol: A to Z or 0 to 9, and then letters and digits")
         self.file("worse.rich", "{number S Z; number T Z}")
         self.is_refused(path, (3, 3), f"in {worse}, line 1: an earlier number says what these stand for")
 
@@ -110,7 +110,7 @@ class Use(Trial):
 
     def test_the_library_is_used(self):
         path = self.file("lib.rich", f'{{use "{TOP}/lib/nat.rich"; use "{TOP}/lib/bool.rich"}} <a,b|Mul(3,a)=4,Not(b)=True,Era=Dup(x,x)>')
-        self.runs("reduce", path, out=["<" + "S(" * 12 + "Z" + ")" * 12 + ",False|>"])
+        self.runs("reduce", path, out=["<12,False|>"])
 
     def test_use_is_a_name_elsewhere(self):
         self.runs("expand", given="{A><B} <use|use=use1>", out="{A><B} <a|a=b>")

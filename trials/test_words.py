@@ -17,10 +17,10 @@ RANGE = re.compile(r"from (\d+) to (\d+)")
 APART = {
     "--rounds": ["--steps", "--keep", "--resume", "--seconds", "--workers"],
     "--keep": ["--resume", "--limits"],
-    "--resume": ["--limits", "--rich", "FILE"],
+    "--resume": ["--limits", "--rich", "--plain", "FILE"],
 }
 GIVEN = {"--limits": "wide", "--format": "json", "--keep": "F", "--resume": "G", "FILE": "text"}
-FLAGS = ("--rich", "--partial", "--with-rules", "--quiet-answer", "--stats", "--from-one-file")
+FLAGS = ("--rich", "--plain", "--partial", "--with-rules", "--quiet-answer", "--stats", "--from-one-file")
 
 
 def help_of(*words):

@@ -206,8 +206,18 @@ pub const RICH: Flag = Flag {
     help: "Read a rich text, as one is that begins with #rich, or in a file *.rich",
 };
 
-/// A text that may be rich.
-const TEXT: &[Argument] = &[Argument::Place(FILE), Argument::Flag(RICH)];
+/// Whether what comes of a rich text is told as of the text for which it stands.
+pub const PLAIN: Flag = Flag {
+    name: "plain",
+    help: "Print no numbers, lists, pairs and long names, but what they stand for",
+};
+
+/// A text that may be rich, to which a net comes.
+const TEXT: &[Argument] = &[
+    Argument::Place(FILE),
+    Argument::Flag(RICH),
+    Argument::Flag(PLAIN),
+];
 
 /// How many threads make the rounds of several jobs.
 pub const WORKERS: Number = Number {
@@ -329,7 +339,7 @@ pub const RESUME: Text = Text {
     name: "resume",
     shown: "F",
     needed: false,
-    apart: &["limits", "file", "rich"],
+    apart: &["limits", "file", "rich", "plain"],
     help: "Go on with what is kept in F and F.2, and keep it there",
 };
 
@@ -375,6 +385,7 @@ pub const REDUCERS: Number = Number {
 const REDUCE: &[Argument] = &[
     Argument::Place(FILE),
     Argument::Flag(RICH),
+    Argument::Flag(PLAIN),
     Argument::Number(STEPS),
     Argument::Number(NODES),
     Argument::Choice(LIMITS),
@@ -441,6 +452,7 @@ pub const DRAWN: Number = Number {
 const DRAW: &[Argument] = &[
     Argument::Place(FILE),
     Argument::Flag(RICH),
+    Argument::Flag(PLAIN),
     Argument::Number(DRAWN),
 ];
 

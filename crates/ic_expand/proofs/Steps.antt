@@ -2,6 +2,7 @@
 use Rattle.std.proofs.Common.{◌≡◌, ℕ, ◌+◌, ◌||◌, Bool, true, false, cond, List, ◌∷◌, ◌++◌, length, refl, sym, ap, ◌∙◌, append_assoc, Option, None, Result, Ok, Err}
 use Rattle.std.specs.List.{concat, fold, list_any}
 use Rattle.std.proofs.lemmas.Bool.{false≢true}
+use Rattle.std.proofs.lemmas.List.Sums.{fold-append}
 use Rattle.ic_term.specs.Symbol.{Symbol}
 use Rattle.ic_expand.specs.declared.fault.Reason.{Reason}
 use Rattle.ic_expand.specs.declared.fault.ExpandFault.{ExpandFault}
@@ -9,7 +10,7 @@ use Rattle.ic_expand.specs.declared.names.Spelling.{Spelling}
 use Rattle.ic_expand.specs.declared.spot.Spot.{Spot}
 use Rattle.ic_expand.specs.Pieces.{pieces}
 use Rattle.ic_expand.specs.Spots.{after}
-use Rattle.ic_expand.specs.Reading.{arguments, heads, is_head, is_use, noted, partner, uses}
+use Rattle.ic_expand.specs.Reading.{arguments, asked, asked_by, heads, is_head, is_use, noted, partner, uses}
 use Rattle.ic_expand.specs.Names.{is_named, names, with_word}
 use Rattle.ic_expand.specs.Expanding.{Sheet, before_text, piece_text, refusal, unless_refused, with_generic, written}
 use Rattle.ic_expand.proofs.Cutting.{concat-pieces}
@@ -36,6 +37,12 @@ module _ (ss : List Symbol) (spot : Spot) (p more rest : List ℕ) (cut : pieces
 
   pub unused : is_use spot p ≡ false → uses spot (pieces rest) ≡ uses (after spot p) (pieces more)
   unused is = ap (uses spot) cut ∙ if_no (is_use spot p) (record { text = p; arity = arguments (concat (pieces more)) }) (uses (after spot p) (pieces more)) is
+
+-- ---- symbols that are asked for
+
+pub asked_more : (ss : List Symbol) (spot : Spot) (p more rest : List ℕ) → pieces rest ≡ p ∷ pieces more
+    → fold noted ss (asked spot (pieces rest)) ≡ fold noted (fold noted ss (asked_by spot p)) (asked (after spot p) (pieces more))
+asked_more ss spot p more rest cut = ap (λ ps. fold noted ss (asked spot ps)) cut ∙ fold-append noted ss (asked_by spot p) (asked (after spot p) (pieces more))
 
 -- ---- pairs
 

@@ -13,13 +13,13 @@ use Rattle.ic_expand.specs.declared.opening.Opened.TheVariants.{Going, Whole, Ri
 abbrev pub left_of : {R : Type 0} → (R → Option (List ℕ)) → Opened R → Option (List ℕ)
 left_of rest (Going text) = chain_remaining (cursor_remaining (λ bytes. Some bytes.items)) rest text
 left_of rest (Whole text) = cursor_remaining (λ bytes. Some bytes.items) text
-left_of rest (Rich text) = cursor_remaining (λ bytes. Some bytes.items) text
+left_of rest (Rich text wording) = cursor_remaining (λ bytes. Some bytes.items) text
 
 -- whether what is read is what a rich text is expanded to
 abbrev pub is_expanded : {R : Type 0} → Opened R → Bool
 is_expanded (Going text) = false
 is_expanded (Whole text) = false
-is_expanded (Rich text) = true
+is_expanded (Rich text wording) = true
 
 -- of a text that isn't rich, all of it is read
 abbrev pub ReadsPlain : {R : Type 0} → (R → Option (List ℕ)) → List ℕ → Opened R → Type 0

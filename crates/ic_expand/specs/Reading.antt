@@ -7,6 +7,7 @@ use Rattle.ic_term.specs.Symbol.{Symbol, is_symbol_text}
 use Rattle.ic_term.specs.declared.limits.TheConstants.{MAX_WIDE_SYMBOLS}
 use Rattle.ic_expand.specs.declared.spot.Spot.{Spot}
 use Rattle.ic_expand.specs.declared.spot.Spot.TheVariants.{Elsewhere, Opening, Asked}
+use Rattle.ic_expand.specs.Generic.{arity_of}
 use Rattle.ic_expand.specs.Pieces.{joins}
 use Rattle.ic_expand.specs.Spots.{after}
 
@@ -44,9 +45,22 @@ abbrev pub noted : List Symbol → Symbol → List Symbol
 noted ss s = if is_known s.text ss || not (nat_lt (length ss) MAX_WIDE_SYMBOLS) then ss
     else ss ++ s ∷ []
 
--- the symbols of a text by first occurrence, each with its number of arguments there
+-- the symbols of terms by first occurrence, each with its number of arguments there
+abbrev pub used_symbols : List (List ℕ) → List Symbol
+used_symbols ps = fold noted [] (uses Elsewhere ps)
+
+-- the symbol that `copy` or `erase` names, with as many arguments as it has to have
+abbrev pub asked_by : Spot → List ℕ → List Symbol
+asked_by (Asked kind) p = if is_symbol_text p then record { text = p; arity = arity_of kind } ∷ [] else []
+asked_by spot p = []
+
+abbrev pub asked : Spot → List (List ℕ) → List Symbol
+asked spot [] = []
+asked spot (p ∷ ps) = asked_by spot p ++ asked (after spot p) ps
+
+-- the symbols of a text: those of terms, and then those that only `copy` and `erase` name
 abbrev pub symbols_of : List (List ℕ) → List Symbol
-symbols_of ps = fold noted [] (uses Elsewhere ps)
+symbols_of ps = fold noted (used_symbols ps) (asked Elsewhere ps)
 
 -- what stands in a text after the first such byte
 abbrev pub beyond : ℕ → List ℕ → List ℕ

@@ -72,10 +72,12 @@ pub fn generic_rules_keep_arities()
         × (erased s t ≡ rule_text (agent_text s []) (agent_text t.text zs)) }
 {}
 
-/// A word after `copy` that is no symbol is told to be none, and a symbol to stand in no term.
+/// A word after `copy` that is no symbol is told to be none. A symbol that stands in no term is copied by its own copier alone, and
+/// erased by its own eraser.
 pub fn words_and_unknown_symbols_are_told_apart()
     ensures word { expanded (codes "{ copy dup }") ≡ Err (Refused NotSymbol 7) }
-    ensures symbol { expanded (codes "{ copy Dup }") ≡ Err (Refused NoSymbol 7) }
+    ensures copier { expanded (codes "{ copy Dup }") ≡ Ok (codes "{  Dup(a,b)><Dup(a,b) }") }
+    ensures eraser { expanded (codes "{A><B;erase E}") ≡ Ok (codes "{A><B; E><A;E><B;E><E}") }
 {}
 
 /// A text with each of these, and what it is written as.
@@ -106,7 +108,7 @@ pub fn refusals_by_hand()
     ensures stood_for { expanded (codes "{ erase E; D(a,b)><D(a,b); copy D } <|D(x,y)=E>")
         ≡ Err (Refused NoRules 32) }
     ensures unended { expanded (codes "{ copy D E><F } <|D(x,y)=E>") ≡ Err (Refused NoEnd 9) }
-    ensures unknown { expanded (codes "{ # two\n copy Dup }") ≡ Err (Refused NoSymbol 9) }
+    ensures unknown { expanded (codes "{ # two\n copy dup }") ≡ Err (Refused NotSymbol 9) }
     ensures line { expanded (codes " submit a {} <|>") ≡ Err (Refused NoText 1) }
     ensures long { (text : List ℕ) → MAX_RICH_TEXT < length text
         → expanded text ≡ Err (Refused TextBytes MAX_RICH_TEXT) }

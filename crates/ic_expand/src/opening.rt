@@ -8,7 +8,8 @@ ghost use Rattle.ic_expand.specs.inner.Causes.{TakesFront};
 
 use crate::marks::{TELLING, is_marked};
 use crate::stream::{read_whole, told_text};
-use ic_rich::Files;
+use crate::texts::Expanded;
+use ic_rich::{Files, Wording};
 use ic_streams::StreamFault;
 use std::alloc::Global;
 use std::io::{self, Chain, Cursor, ErrorKind, Read};
@@ -23,8 +24,8 @@ pub enum Opened<R> {
     Going(Chain<Cursor<Vec<u8>>, R>),
     /// A text of which all was read to see whether it is rich.
     Whole(Cursor<Vec<u8>>),
-    /// What a rich text is expanded to.
-    Rich(Cursor<Vec<u8>>),
+    /// What a rich text is expanded to, and its words, unless what comes of it is told as it is.
+    Rich(Cursor<Vec<u8>>, Option<Wording>),
 }
 
 impl<R> Opened<R> {
@@ -33,8 +34,26 @@ impl<R> Opened<R> {
         ensures { result ≡ is_expanded self.now }
     {
         match self {
-            Opened::Rich(_) => true,
+            Opened::Rich(_, _) => true,
             Opened::Going(_) | Opened::Whole(_) => false,
+        }
+    }
+
+    /// The words in which is told what comes of it, if it has some.
+    pub fn wording(&self) -> Option<&Wording> {
+        match self {
+            Opened::Rich(_, Some(wording)) => Some(wording),
+            Opened::Rich(_, None) | Opened::Going(_) | Opened::Whole(_) => None,
+        }
+    }
+
+    /// The same, where what comes of it is told as it is.
+    pub fn told_plain(self) -> Opened<R>
+        ensures { is_expanded result ≡ is_expanded self }
+    {
+        match self {
+            Opened::Rich(text, _) => Opened::Rich(text, None),
+            other => other,
         }
     }
 }
@@ -46,7 +65,7 @@ impl<R: Read> Read for Opened<R> {
         match self {
             Opened::Going(text) => text.read(buf),
             Opened::Whole(text) => text.read(buf),
-            Opened::Rich(text) => text.read(buf),
+            Opened::Rich(text, _) => text.read(buf),
         }
     }
 }
@@ -88,11 +107,11 @@ fn is_rich_front(said: bool, front: &[u8]) -> bool
 }
 
 /// What is read of a text that is expanded to this one.
-fn rich_with<R: Read>(out: Vec<u8>) -> Opened<R>
-    ensures left { left_of R.remaining result ≡ Some out.items }
+fn rich_with<R: Read>(out: Expanded) -> Opened<R>
+    ensures left { left_of R.remaining result ≡ Some out.text.items }
     ensures expanded { is_expanded result ≡ true }
 {
-    Opened::Rich(Cursor::new(out))
+    Opened::Rich(Cursor::new(out.text), Some(out.wording))
 }
 
 /// What is read of a text whose front was taken from this reader, or all of it.

@@ -1,9 +1,11 @@
 //! The symbols of a text.
 
 ghost use Rattle.std.specs.Prelude.{◌≡◌, ◌<◌, ◌-◌, ◌^◌, IfOk, OnOk, get_or, length, map};
+ghost use Rattle.std.specs.List.{fold};
 ghost use Rattle.ic_term.specs.Symbol.{texts};
 ghost use Rattle.ic_expand.specs.Pieces.{pieces};
-ghost use Rattle.ic_expand.specs.Reading.{is_head, is_use, leading_word, noted, symbols_of};
+ghost use Rattle.ic_expand.specs.Reading.{asked, asked_by, is_head, is_use, leading_word, noted, symbols_of, used_symbols};
+ghost use Rattle.ic_expand.specs.declared.spot.Spot.TheVariants.{Elsewhere};
 ghost use Rattle.ic_expand.specs.inner.Ahead.{arguments_by};
 ghost use Rattle.ic_expand.specs.inner.Sheets.{symbol_in};
 
@@ -94,11 +96,65 @@ fn note<'a>(
     Ok(())
 }
 
-/// The symbols of a text by first occurrence, and their texts.
+/// The symbols of a text, those of terms by first occurrence, and their texts.
 pub(crate) fn symbols_of(alloc: Global, text: &[u8]) -> Result<(Vec<Use>, Words<'_>), AllocError>
     ensures symbols { IfOk result
         (λ found. map symbol_in found.0.items ≡ symbols_of (pieces text.now)) }
     ensures known { IfOk result (λ found. found.1 ≡ texts (symbols_of (pieces text.now))) }
+{
+    let (mut symbols, mut known) = used_symbols(alloc, text)?;
+    note_asked(alloc, &mut symbols, &mut known, text)?;
+    Ok((symbols, known))
+}
+
+/// Notes the symbols of a text that `copy` and `erase` name, among those with these texts.
+fn note_asked<'a>(
+    alloc: Global,
+    symbols: &mut Vec<Use>,
+    known: &mut Words<'a>,
+    text: &'a [u8],
+) -> Result<(), AllocError>
+    requires { known.old ≡ texts (map symbol_in symbols.old.items) }
+    ensures noted { OnOk result (map symbol_in symbols.new.items
+        ≡ fold noted (map symbol_in symbols.old.items) (asked Elsewhere (pieces text.now))) }
+    ensures known { OnOk result (known.new ≡ texts (map symbol_in symbols.new.items)) }
+{
+    let mut spot = Spot::Elsewhere;
+    let mut rest = text;
+    while !rest.is_empty() {
+        let (piece, more) = split_piece(rest);
+        let next = spot.after(piece);
+        note_at(alloc, symbols, known, spot, piece)?;
+        spot = next;
+        rest = more;
+    }
+    Ok(())
+}
+
+/// Notes a piece, if it is the symbol that `copy` or `erase` names.
+fn note_at<'a>(
+    alloc: Global,
+    symbols: &mut Vec<Use>,
+    known: &mut Words<'a>,
+    spot: Spot,
+    piece: &'a [u8],
+) -> Result<(), AllocError>
+    requires { known.old ≡ texts (map symbol_in symbols.old.items) }
+    ensures noted { OnOk result (map symbol_in symbols.new.items
+        ≡ fold noted (map symbol_in symbols.old.items) (asked_by spot piece.now)) }
+    ensures known { OnOk result (known.new ≡ texts (map symbol_in symbols.new.items)) }
+{
+    match spot {
+        Spot::Asked(kind) if is_symbol(piece) => note(alloc, symbols, known, piece, kind.arity()),
+        Spot::Asked(_) | Spot::Elsewhere | Spot::Opening | Spot::Given => Ok(()),
+    }
+}
+
+/// The symbols of terms by first occurrence, and their texts.
+fn used_symbols(alloc: Global, text: &[u8]) -> Result<(Vec<Use>, Words<'_>), AllocError>
+    ensures symbols { IfOk result
+        (λ found. map symbol_in found.0.items ≡ used_symbols (pieces text.now)) }
+    ensures known { IfOk result (λ found. found.1 ≡ texts (used_symbols (pieces text.now))) }
 {
     let mut symbols = Vec::new(alloc);
     let mut known = Words::new(alloc);

@@ -7,7 +7,7 @@ ghost use Rattle.ic_expand.specs.Streams.{Expands, TakesAt, TakesSome, TakesText
 ghost use Rattle.ic_streams.specs.declared.fault.StreamFault.TheVariants.{Text};
 
 use crate::limits::MAX_RICH_TEXT;
-use crate::texts::{Refusal, Unexpanded, expand_text};
+use crate::texts::{Expanded, Refusal, Unexpanded, expand_text};
 use ic_diagnostics::place_lines;
 use ic_rich::Files;
 use ic_streams::{StreamFault, write_line};
@@ -41,7 +41,7 @@ pub fn expand_stream<R: Read, W: Write, F: Files>(
 {
     let text = read_whole(alloc, reader)?;
     let out = told_text(alloc, &text, files, told)?;
-    write_line(writer, &out)
+    write_line(writer, &out.text)
 }
 
 /// All that the reader has, or one byte more than a text may have.
@@ -75,8 +75,8 @@ pub(crate) fn told_text<F: Files>(
     text: &[u8],
     files: &F,
     told: &mut Vec<u8>,
-) -> Result<Vec<u8>, StreamFault>
-    ensures text { IfOk result (λ out. Expands text.now (Ok out.items)) }
+) -> Result<Expanded, StreamFault>
+    ensures text { IfOk result (λ out. Expands text.now (Ok out.text.items)) }
     ensures refused { IfErr result (λ fault. FaultOf Expands text.now fault) }
     ensures quiet { OnOk result (told.new.items ≡ told.old.items) }
     ensures sort { IfErr result

@@ -11,9 +11,18 @@ use crate::comments::without_comments;
 use crate::fault::{ExpandFault, Reason};
 use crate::forms::has_form;
 use crate::writing::expand;
-use ic_rich::{Files, JoinFault, JoinRefusal, Joined, RichFault, Unfolded, join, sentence, unfold};
+use ic_rich::{
+    Files, JoinFault, JoinRefusal, Joined, RichFault, Unfolded, Wording, join, sentence, unfold,
+};
 use ic_text::TextFault;
 use std::alloc::{AllocError, AllocFailed, Global};
+
+/// The text of the calculus for which a text stands, and the words in which what it comes to is told.
+#[derive(Drop)]
+pub struct Expanded {
+    pub text: Vec<u8>,
+    pub wording: Wording,
+}
 
 /// Why a text is refused, and at which place of which text, the one without comments, as it is told.
 #[derive(Drop)]
@@ -49,8 +58,8 @@ impl<T: Drop> From<AllocFailed<T>> for Unexpanded {
 }
 
 /// The text of the calculus for which a text stands, whatever forms it has, with the rules of the files that it uses.
-pub fn expand_text<F: Files>(alloc: Global, text: &[u8], files: &F) -> Result<Vec<u8>, Unexpanded>
-    ensures text { IfOk result (λ out. Expands text.now (Ok out.items)) }
+pub fn expand_text<F: Files>(alloc: Global, text: &[u8], files: &F) -> Result<Expanded, Unexpanded>
+    ensures text { IfOk result (λ out. Expands text.now (Ok out.text.items)) }
     ensures refused { IfErr result (λ cause. IsCause text.now cause) }
 {
     if has_form(alloc, text)? {
@@ -61,8 +70,8 @@ pub fn expand_text<F: Files>(alloc: Global, text: &[u8], files: &F) -> Result<Ve
 }
 
 /// What a text with forms is expanded to, or its refusal.
-fn formed_text<F: Files>(alloc: Global, text: &[u8], files: &F) -> Result<Vec<u8>, Unexpanded>
-    ensures text { IfOk result (λ out. (plain : List ℕ) × (expanded plain ≡ Ok out.items)) }
+fn formed_text<F: Files>(alloc: Global, text: &[u8], files: &F) -> Result<Expanded, Unexpanded>
+    ensures text { IfOk result (λ out. (plain : List ℕ) × (expanded plain ≡ Ok out.text.items)) }
     ensures refused { IfErr result IsOfForms }
 {
     let body = without_comments(alloc, text)?;
@@ -105,8 +114,8 @@ fn of_refusal(refused: JoinRefusal, fault: TextFault) -> Unexpanded
 }
 
 /// What a text with the rules of the files that it uses is expanded to, or its refusal.
-fn joined_text(alloc: Global, joined: &Joined) -> Result<Vec<u8>, Unexpanded>
-    ensures text { IfOk result (λ out. (plain : List ℕ) × (expanded plain ≡ Ok out.items)) }
+fn joined_text(alloc: Global, joined: &Joined) -> Result<Expanded, Unexpanded>
+    ensures text { IfOk result (λ out. (plain : List ℕ) × (expanded plain ≡ Ok out.text.items)) }
     ensures refused { IfErr result IsOfForms }
 {
     let text = joined.text();
@@ -133,12 +142,15 @@ fn form_fault(reason: ic_rich::Reason) -> TextFault
 }
 
 /// What is expanded of what a text with forms is unfolded to, or its refusal.
-fn unfolded_text(alloc: Global, joined: &Joined, written: &Unfolded) -> Result<Vec<u8>, Unexpanded>
-    ensures text { IfOk result (λ out. (plain : List ℕ) × (expanded plain ≡ Ok out.items)) }
+fn unfolded_text(alloc: Global, joined: &Joined, written: &Unfolded) -> Result<Expanded, Unexpanded>
+    ensures text { IfOk result (λ out. (plain : List ℕ) × (expanded plain ≡ Ok out.text.items)) }
     ensures refused { IfErr result IsOfForms }
 {
     match expand(alloc, written.text()) {
-        Ok(out) => Ok(out),
+        Ok(text) => {
+            let wording = written.wording(alloc, &text)?;
+            Ok(Expanded { text, wording })
+        }
         Err(ExpandFault::Memory) => Err(Unexpanded::Memory),
         Err(ExpandFault::Refused(reason, at)) => {
             let words = reason_sentence(alloc, reason)?;
@@ -149,12 +161,16 @@ fn unfolded_text(alloc: Global, joined: &Joined, written: &Unfolded) -> Result<V
 }
 
 /// What a text without forms is expanded to, or its refusal.
-fn formless_text(alloc: Global, text: &[u8]) -> Result<Vec<u8>, Unexpanded>
-    ensures text { IfOk result (λ out. expanded text.now ≡ Ok out.items) }
+fn formless_text(alloc: Global, text: &[u8]) -> Result<Expanded, Unexpanded>
+    ensures text { IfOk result (λ out. expanded text.now ≡ Ok out.text.items) }
     ensures refused { IfErr result (λ cause. IsCause text.now cause) }
 {
     match expand(alloc, text) {
-        Ok(out) => Ok(out),
+        Ok(out) => {
+            let body = without_comments(alloc, text)?;
+            let wording = Wording::of_names(alloc, &body, &out)?;
+            Ok(Expanded { text: out, wording })
+        }
         Err(ExpandFault::Memory) => Err(Unexpanded::Memory),
         Err(ExpandFault::Refused(reason, at)) => {
             let sentence = reason_sentence(alloc, reason)?;

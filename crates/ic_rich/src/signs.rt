@@ -95,7 +95,8 @@ fn sign_of<'t>(tokens: &[Token<'t>], sort: Sort, end: usize) -> Result<Sign<'t>,
 }
 
 impl<'t> Signs<'t> {
-    fn new() -> Signs<'t> {
+    /// Nothing.
+    pub(crate) fn new() -> Signs<'t> {
         Signs {
             number: None,
             list: None,

@@ -4,20 +4,23 @@ use crate::arrows::{has_arrow, put_rule};
 use crate::fault::RichFault;
 use crate::segments::{Segment, after_blanks, part_of, segments_of};
 use crate::shorthands::Shorthands;
-use crate::signs::signs_of;
+use crate::signs::{Signs, signs_of};
+use crate::wording::Wording;
 use crate::written::Written;
-use std::alloc::Global;
+use std::alloc::{AllocError, Global};
 
 /// A text without forms, and whence it comes.
 #[derive(Drop)]
-pub struct Unfolded {
+pub struct Unfolded<'t> {
+    /// What the text declares.
+    signs: Signs<'t>,
     /// What the text is without shorthands.
     long: Written,
     /// What that is without rules by arrows.
     plain: Written,
 }
 
-impl Unfolded {
+impl Unfolded<'_> {
     /// The text.
     pub fn text(&self) -> &[u8] {
         self.plain.text()
@@ -26,6 +29,11 @@ impl Unfolded {
     /// The place from which comes what stands at a place of the text.
     pub fn place_of(&self, at: usize) -> usize {
         self.long.place_of(self.plain.place_of(at))
+    }
+
+    /// The words of the text, which is written as this plain one.
+    pub fn wording(&self, alloc: Global, plain: &[u8]) -> Result<Wording, AllocError> {
+        Wording::of_signs(alloc, self.signs, self.text(), plain)
     }
 }
 
@@ -57,18 +65,14 @@ fn without_arrows(alloc: Global, text: &[u8]) -> Result<Written, RichFault> {
     Ok(written)
 }
 
-/// A text with the terms for which they stand in the place of numbers, lists, pairs and names by `let`.
-fn without_shorthands(alloc: Global, text: &[u8]) -> Result<Written, RichFault> {
+/// A text without comments and without forms. First numbers, lists, pairs and names by `let` are written as the terms for which they
+/// stand.
+pub fn unfold<'t>(alloc: Global, text: &'t [u8]) -> Result<Unfolded<'t>, RichFault> {
     let segments = segments_of(alloc, text)?;
     let signs = signs_of(alloc, text, &segments)?;
-    Shorthands::new(alloc, text, signs).put_all(&segments)
-}
-
-/// A text without comments and without forms.
-pub fn unfold(alloc: Global, text: &[u8]) -> Result<Unfolded, RichFault> {
-    let long = without_shorthands(alloc, text)?;
+    let long = Shorthands::new(alloc, text, signs).put_all(&segments)?;
     match without_arrows(alloc, long.text()) {
-        Ok(plain) => Ok(Unfolded { long, plain }),
+        Ok(plain) => Ok(Unfolded { signs, long, plain }),
         Err(RichFault::Refused(reason, at)) => {
             Err(RichFault::Refused(reason, long.place_of(at)))
         }

@@ -108,7 +108,7 @@ impl FileSource<'_> {
         match expand_text(alloc, &bytes, &files) {
             Ok(plain) => {
                 self.expanded.set(true);
-                Ok(Given::Text(plain))
+                Ok(Given::Text(plain.text))
             }
             Err(Unexpanded::Refused(refusal)) => Ok(Given::Refused(Refused {
                 text: refusal.body,

@@ -2,7 +2,7 @@
 
 use crate::input::{self, Input, is_rich_path, open_text, tell_of_plain};
 use crate::keeping::{self, KeptIn};
-use crate::reducing::{self, Wanted, threads_for};
+use crate::reducing::{self, Wanted, of_memory, threads_for};
 use crate::texts::UsedFiles;
 use crate::{
     Clients, DiskAt, Making, attend, batching, checking, create, dumping, inspecting, looking,
@@ -10,8 +10,8 @@ use crate::{
 };
 use ic_args::table::{
     CHECKED, DISK, DRAWN, EVERY, EXPLAIN, FIGURES, FILE, GROUP, HELPERS, KEEP, LIMITS, LINES,
-    MAX_ROUNDS, MAX_STEPS, NAMES, NODES, ONE_FILE, OVERWRITE, PARTIAL, QUIET, REDUCERS, REPORT,
-    RESUME, RICH, ROUNDS, RULES_TOO, RUNNERS, SCRIPT, SCRIPTS, SECONDS, STATS, STEPS, STRICT, SUMS,
+    MAX_ROUNDS, MAX_STEPS, NAMES, NODES, ONE_FILE, OVERWRITE, PARTIAL, PLAIN, QUIET, REDUCERS,
+    REPORT, RESUME, RICH, ROUNDS, RULES_TOO, RUNNERS, SCRIPT, SCRIPTS, SECONDS, STATS, STEPS, STRICT, SUMS,
     TABLE, TAKEN, TOPIC, TRACED, TURNS, WAIT, WORKERS, Word, table,
 };
 use ic_args::{
@@ -20,8 +20,9 @@ use ic_args::{
 use ic_causes::{NotedInput, NotedOutput, Notes};
 use ic_diagnostics::{once_telling, settle_telling};
 use ic_exits::Failure;
-use ic_expand::Opened;
+use ic_expand::{Opened, Shape, write_told};
 use ic_in_place::{Asked, Bounds, RoundBounds};
+use ic_streams::StreamFault;
 use ic_text::Limits;
 use ic_workers::Policy;
 use std::io::{self, Cursor, Read, StdinLock};
@@ -83,12 +84,18 @@ type Text<'a> = Input<'a, StdinLock<'static>>;
 type Opening<'a> = Opened<Text<'a>>;
 
 /// The text in the file that is named, or on standard input. A rich one is expanded; if it is refused, the lines that tell
-/// of it are appended to `told`.
+/// of it are appended to `told`. What comes of it is told in its words, unless plain ones are wanted, or rules beside it.
 fn open_input<'a, T>(doing: &Doing<'a, '_, T>, told: &mut Vec<u8>) -> Result<Opening<'a>, Failure> {
     let is_said = doing.values.flag(&RICH) || doing.values.file(&FILE).is_some_and(is_rich_path);
     let input = open_given(doing)?;
     let files = used_by(doing);
-    ic_expand::open_text(doing.rt.alloc(), input, is_said, &files, told).map_err(Failure::Stream)
+    let opened = ic_expand::open_text(doing.rt.alloc(), input, is_said, &files, told);
+    let opened = opened.map_err(Failure::Stream)?;
+    if doing.values.flag(&PLAIN) || doing.values.flag(&RULES_TOO) {
+        Ok(opened.told_plain())
+    } else {
+        Ok(opened)
+    }
 }
 
 /// The files that the text uses.
@@ -126,16 +133,31 @@ fn unread<'a, T>(doing: &Doing<'a, '_, T>) -> Opening<'a> {
 
 fn settle<T>(doing: &Doing<'_, '_, T>, told: &mut Vec<u8>) -> Result<(), Failure> {
     let mut input = open_input(doing, told)?;
-    let mut output = NotedOutput::new(io::writer(doing.rt), doing.notes);
-    let settled = settle_telling(doing.rt.alloc(), &mut input, &mut output, told);
-    tell_of_plain(&input, settled.map_err(Failure::Stream), told)
+    let mut line = Vec::new(doing.rt.alloc());
+    let settled = settle_telling(doing.rt.alloc(), &mut input, &mut line, told);
+    let written = write_made(doing, &input, settled, &line);
+    tell_of_plain(&input, written, told)
 }
 
 fn once<T>(doing: &Doing<'_, '_, T>, told: &mut Vec<u8>) -> Result<(), Failure> {
     let mut input = open_input(doing, told)?;
+    let mut line = Vec::new(doing.rt.alloc());
+    let made = once_telling(doing.rt.alloc(), &mut input, &mut line, told);
+    let written = write_made(doing, &input, made, &line);
+    tell_of_plain(&input, written, told)
+}
+
+/// Writes a line that was gathered of a text, in the words of that.
+fn write_made<T>(
+    doing: &Doing<'_, '_, T>,
+    input: &Opening<'_>,
+    made: Result<(), StreamFault>,
+    line: &[u8],
+) -> Result<(), Failure> {
+    made.map_err(of_memory).map_err(Failure::Stream)?;
     let mut output = NotedOutput::new(io::writer(doing.rt), doing.notes);
-    let made = once_telling(doing.rt.alloc(), &mut input, &mut output, told);
-    tell_of_plain(&input, made.map_err(Failure::Stream), told)
+    let (alloc, wording) = (doing.rt.alloc(), input.wording());
+    write_told(alloc, wording, Shape::Line, line, &mut output).map_err(Failure::Stream)
 }
 
 fn draw<T>(doing: &Doing<'_, '_, T>, told: &mut Vec<u8>) -> Result<(), Failure> {

@@ -8,12 +8,13 @@ use crate::{NotedDisk, open_disk, open_disk_as};
 use ic_causes::{Cause, FileCall, NotedOutput, Notes, Reason, Target, shown_path};
 use ic_diagnostics::{Kind, refused_within};
 use ic_disk::Disk;
+use ic_expand::{Opened, Shape, Wording, write_told};
 use ic_exits::Failure;
 use ic_in_place::{Bounds, Outcome};
 use ic_keeping::{Ended, KeepingFault, Pace, Start, begun, live, live_anew};
 use ic_kept::Keeper;
 use ic_progress::Watching;
-use ic_streams::{StreamFault, read_text_within, write_line};
+use ic_streams::{StreamFault, read_text_within};
 use ic_text::Limits;
 use std::alloc::AllocError;
 use std::fs::metadata;
@@ -43,7 +44,7 @@ pub(crate) fn reduce<T: Threads + Sync, R: Read>(
     kept: KeptIn<'_>,
     bounds: Bounds,
     wanted: Wanted,
-    input: &mut R,
+    input: &mut Opened<R>,
     notes: &Notes,
     told: &mut Vec<u8>,
 ) -> Result<(), Failure> {
@@ -59,7 +60,7 @@ pub(crate) fn reduce<T: Threads + Sync, R: Read>(
         }
         lived => lived?,
     };
-    let done = tell(rt, ended, bounds, wanted, notes);
+    let done = tell(rt, ended, bounds, wanted, input.wording(), notes);
     if matches!(done, Err(Failure::Overgrown(_, _))) {
         let _ = tell_kept(rt, kept.path, told);
     }
@@ -290,12 +291,13 @@ fn open_second<'a>(
     open_disk_as(rt, second.as_str(), Target::Second, create, notes)
 }
 
-/// Tells how a reduction has ended: its line on standard output, where it is wanted, and the rest on standard error.
+/// Tells how a reduction has ended: its line on standard output, where it is wanted, in these words, and the rest on standard error.
 fn tell(
     rt: &HostRuntime,
     ended: Ended,
     bounds: Bounds,
     wanted: Wanted,
+    wording: Option<&Wording>,
     notes: &Notes,
 ) -> Result<(), Failure> {
     let Ended {
@@ -313,7 +315,7 @@ fn tell(
     if wanted.has_rules {
         put_system(rt.alloc(), &rules, &line, &mut output).map_err(Failure::Stream)?;
     } else {
-        write_line(&mut output, &line).map_err(Failure::Stream)?;
+        write_told(rt.alloc(), wording, Shape::Line, &line, &mut output).map_err(Failure::Stream)?;
     }
     let time = Duration::from_millis(state.millis);
     let outcome = Outcome {

@@ -6,6 +6,7 @@ use ic_args::TraceFormat;
 use ic_by_rounds::{Format, Summary, Traced, summary_line, summary_object, trace_stream};
 use ic_causes::{NotedOutput, Notes};
 use ic_exits::{Failure, circle_line, reduce_ending, stuck_line};
+use ic_expand::{Opened, Shape, Wording, write_told};
 use ic_in_place::{Asked, End, RoundBounds, Rounded, reduce_by_rounds_stream};
 use ic_nets::draw_stream;
 use ic_progress::{Watching, WipedFirst};
@@ -103,7 +104,7 @@ const DRAWN_NODES: u64 = 134_217_728;
 pub(crate) fn draw_after<R: Read>(
     rt: &HostRuntime,
     rounds: u64,
-    input: &mut R,
+    input: &mut Opened<R>,
     notes: &Notes,
     told: &mut Vec<u8>,
 ) -> Result<(), Failure> {
@@ -126,7 +127,7 @@ pub(crate) fn draw_after<R: Read>(
     watching.wipe();
     let made = made.map_err(of_memory).map_err(Failure::Stream)?;
     match made.outcome.end {
-        End::Quiet | End::Steps => draw_line(rt, &made, &line, notes, told),
+        End::Quiet | End::Steps => draw_line(rt, &made, &line, input.wording(), notes, told),
         end => {
             let reached = reached_of(&made.outcome, Some(made.rounds));
             reduce_ending(end, reached, DRAWN_NODES)
@@ -134,11 +135,12 @@ pub(crate) fn draw_after<R: Read>(
     }
 }
 
-/// Prints the net of a line as a graph, which so many rounds have come to.
+/// Prints the net of a line as a graph, which so many rounds have come to, with free names in these words.
 fn draw_line(
     rt: &HostRuntime,
     made: &Rounded,
     line: &[u8],
+    wording: Option<&Wording>,
     notes: &Notes,
     told: &mut Vec<u8>,
 ) -> Result<(), Failure> {
@@ -146,14 +148,25 @@ fn draw_line(
     put_system(rt.alloc(), &made.outcome.rules, line, &mut text)
         .map_err(of_memory)
         .map_err(Failure::Stream)?;
-    let mut output = NotedOutput::new(io::writer(rt), notes);
-    let mut unseen = Vec::new(rt.alloc());
+    let (mut graph, mut unseen) = (Vec::new(rt.alloc()), Vec::new(rt.alloc()));
     let mut bytes = text.as_slice();
-    let drawn = draw_stream(rt.alloc(), &mut bytes, &mut output, &mut unseen);
+    let drawn = draw_stream(rt.alloc(), &mut bytes, &mut graph, &mut unseen);
     if let Err(StreamFault::Text(TextFault::Limit)) = drawn {
         tell_too_large(rt.alloc(), made.rounds, told).map_err(Failure::Stream)?;
     }
-    drawn.map_err(Failure::Stream)
+    drawn.map_err(of_memory).map_err(Failure::Stream)?;
+    write_graph(rt, wording, &graph, notes)
+}
+
+/// Writes a graph, with free names in these words.
+fn write_graph(
+    rt: &HostRuntime,
+    wording: Option<&Wording>,
+    graph: &[u8],
+    notes: &Notes,
+) -> Result<(), Failure> {
+    let mut output = NotedOutput::new(io::writer(rt), notes);
+    write_told(rt.alloc(), wording, Shape::Graph, graph, &mut output).map_err(Failure::Stream)
 }
 
 /// Appends why a net isn't drawn that so many rounds have come to.
@@ -168,10 +181,12 @@ fn tell_too_large(alloc: Global, rounds: u64, told: &mut Vec<u8>) -> Result<(), 
 /// Prints the net of the configuration as a graph.
 pub(crate) fn draw<R: Read>(
     rt: &HostRuntime,
-    input: &mut R,
+    input: &mut Opened<R>,
     notes: &Notes,
     told: &mut Vec<u8>,
 ) -> Result<(), Failure> {
-    let mut output = NotedOutput::new(io::writer(rt), notes);
-    draw_stream(rt.alloc(), input, &mut output, told).map_err(Failure::Stream)
+    let mut graph = Vec::new(rt.alloc());
+    let drawn = draw_stream(rt.alloc(), input, &mut graph, told);
+    drawn.map_err(of_memory).map_err(Failure::Stream)?;
+    write_graph(rt, input.wording(), &graph, notes)
 }

@@ -8,6 +8,7 @@ use ic_args::table::MAX_STEPS;
 use ic_causes::{NotedOutput, Notes};
 use ic_dump::front_of_system;
 use ic_exits::{Failure, Reached, idle_line, reduce_ending};
+use ic_expand::{Opened, Shape, write_told};
 use ic_in_place::{
     Asked, Bounds, End, Outcome, RoundBounds, Rounded, Watch, reduce_by_rounds_stream,
     reduce_in_place_stream,
@@ -70,7 +71,7 @@ pub(crate) fn reduce<T: Threads + Sync, R: Read>(
     limits: Limits,
     bounds: Bounds,
     wanted: Wanted,
-    input: &mut R,
+    input: &mut Opened<R>,
     notes: &Notes,
     told: &mut Vec<u8>,
 ) -> Result<(), Failure> {
@@ -101,7 +102,7 @@ pub(crate) fn reduce_by_rounds<R: Read>(
     limits: Limits,
     bounds: RoundBounds,
     wanted: Wanted,
-    input: &mut R,
+    input: &mut Opened<R>,
     notes: &Notes,
     told: &mut Vec<u8>,
 ) -> Result<(), Failure> {
@@ -125,7 +126,8 @@ pub(crate) fn reduce_by_rounds<R: Read>(
     tell_end(rt, &reached.outcome, rounds, time, wanted, bounds.nodes)
 }
 
-/// The same of any input and to any output. The rules are known at its end, so what is to stand after them is gathered.
+/// The same of any input and to any output. The rules are known at its end, so what is to stand
+/// after them is gathered, and so is what is told in the words of its text.
 fn reduce_and_print<T: Threads + Sync, V: Watch, R: Read, W: Write>(
     rt: &HostRuntime,
     threads: &T,
@@ -133,11 +135,11 @@ fn reduce_and_print<T: Threads + Sync, V: Watch, R: Read, W: Write>(
     bounds: Bounds,
     wanted: Wanted,
     watch: &V,
-    input: &mut R,
+    input: &mut Opened<R>,
     output: &mut W,
     told: &mut Vec<u8>,
 ) -> Result<Outcome, StreamFault> {
-    if !wanted.has_rules {
+    if !wanted.has_rules && input.wording().is_none() {
         return reduce_over(
             rt, threads, limits, bounds, wanted, watch, input, output, told,
         );
@@ -147,31 +149,48 @@ fn reduce_and_print<T: Threads + Sync, V: Watch, R: Read, W: Write>(
         rt, threads, limits, bounds, wanted, watch, input, &mut line, told,
     )
     .map_err(of_memory)?;
-    put_system(rt.alloc(), &outcome.rules, &line, output)?;
+    put_gathered(rt.alloc(), &outcome, wanted, input, &line, output)?;
     Ok(outcome)
 }
 
-/// Rounds of any input, and the net after them to any output, with the rules before it if they are wanted.
+/// Rounds of any input, and the net after them to any output, with the rules before it if they are wanted, and else in the words of
+/// its text.
 fn round_and_print<V: Watch, R: Read, W: Write>(
     rt: &HostRuntime,
     limits: Limits,
     bounds: RoundBounds,
     wanted: Wanted,
     watch: &V,
-    input: &mut R,
+    input: &mut Opened<R>,
     output: &mut W,
     told: &mut Vec<u8>,
 ) -> Result<Rounded, StreamFault> {
     let (alloc, asked) = (rt.alloc(), wanted.asked);
-    if !wanted.has_rules {
+    if !wanted.has_rules && input.wording().is_none() {
         return reduce_by_rounds_stream(alloc, limits, bounds, asked, watch, input, output, told);
     }
     let mut line = Vec::new(alloc);
     let reached = reduce_by_rounds_stream(
         alloc, limits, bounds, asked, watch, input, &mut line, told,
     ).map_err(of_memory)?;
-    put_system(alloc, &reached.outcome.rules, &line, output)?;
+    put_gathered(alloc, &reached.outcome, wanted, input, &line, output)?;
     Ok(reached)
+}
+
+/// Writes a line that was gathered: after the rules if they are wanted, and else in the words of the text.
+fn put_gathered<R, W: Write>(
+    alloc: Global,
+    outcome: &Outcome,
+    wanted: Wanted,
+    input: &Opened<R>,
+    line: &[u8],
+    output: &mut W,
+) -> Result<(), StreamFault> {
+    if wanted.has_rules {
+        put_system(alloc, &outcome.rules, line, output)
+    } else {
+        write_told(alloc, input.wording(), Shape::Line, line, output)
+    }
 }
 
 /// Where a line can't be gathered, memory has run out.

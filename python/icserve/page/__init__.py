@@ -122,10 +122,10 @@ def go_on(asked: Dict[str, Any]) -> Dict[str, Any]:
     """The configuration after one interaction or one round, settled, the rules that have fired, and its net."""
     rules, config = rules_of(asked["text"]), asked["config"]
     if asked["by"] == "step":
-        answer = answer_of(limited(rules + config, "reduce", "--partial", "--stats", "--format", "json", "--steps", 1, "--workers", 1))
+        answer = answer_of(limited(rules + config, "reduce", "--plain", "--partial", "--stats", "--format", "json", "--steps", 1, "--workers", 1))
         after, fired = answer.text, [it for it, count in (answer.by_rule or {}).items() if count]
     elif asked["by"] == "round":
-        after, fired = limited(rules + config, "once").well().out.strip(), []
+        after, fired = limited(rules + config, "once", "--plain").well().out.strip(), []
     else:
         raise Unasked
     return {**at(rules, settled(after)), "fired": fired}

@@ -31,7 +31,7 @@ pub returns-clause-rich : goal.returns-clause-rich
 returns-clause-rich g c = λ text is rich.
     let left = left_whole text _ _ _ _ _ c.in_ok-front.ensures.front c.opened_with-opened.ensures.going c.opened_with-opened.ensures.whole is in (
       c.rich_with.ensures.expanded,
-      c.in_ok-out.out.items,
+      c.in_ok-out.out.text.items,
       c.rich_with.ensures.left,
-      expands_left text _ _ _ _ (Ok c.in_ok-out.out.items) left c.in_ok-text.ensures.text c.deref-2.ensures.value c.in_ok-out.ensures.text,
+      expands_left text _ _ _ _ (Ok c.in_ok-out.out.text.items) left c.in_ok-text.ensures.text c.deref-2.ensures.value c.in_ok-out.ensures.text,
     )

@@ -6,7 +6,7 @@ use Rattle.ic_expand.specs.inner.Ahead.{arguments_by, counts_of}
 use Rattle.ic_expand.specs.inner.Sheets.{symbol_in}
 use Rattle.ic_expand.proofs.AheadLemmas.{arguments_are, first_few, less, passed}
 use Rattle.ic_expand.proofs.Steps.{unused, used}
-use Rattle.ic_expand.proofs.reading.symbols_of.Goals as goal
+use Rattle.ic_expand.proofs.reading.used_symbols.Goals as goal
 
 pub arguments-arity-requires : goal.arguments-arity-requires
 arguments-arity-requires c =
