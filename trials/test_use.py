@@ -1,6 +1,8 @@
 """`use "FILE"` in rich texts: which rules come, once each, from which folder, and what is refused, at which places."""
 
-from program import IN_MEMORY, TOP, Trial, run
+import shutil
+
+from program import IN_MEMORY, PROGRAM, TOP, Trial, run
 
 NAT = "{number S Z;\n Add(y,r) >< Z => r ~ y;\n Add(y,r) >< S(x) => Add(S(y),r) ~ x}\n<r|Add(1,r)=1>\n"
 
@@ -111,6 +113,27 @@ class Use(Trial):
     def test_the_library_is_used(self):
         path = self.file("lib.rich", f'{{use "{TOP}/lib/nat.rich"; use "{TOP}/lib/bool.rich"}} <a,b|Mul(3,a)=4,Not(b)=True,Era=Dup(x,x)>')
         self.runs("reduce", path, out=["<12,False|>"])
+
+    def test_the_library_is_found_that_was_installed(self):
+        text = '{use "lib/nat.rich"; use "lib/bool.rich"} <a,b|Mul(3,a)=4,Not(b)=True>'
+        for folder in ("clone/out", "clone/crates/icserve/out", "there/bin"):
+            program = self.room / folder / "icserve"
+            program.parent.mkdir(parents=True)
+            shutil.copy(PROGRAM, program)
+        for place in ("clone", "there/share/icserve"):
+            shutil.copytree(TOP / "lib", self.room / place / "lib")
+        for folder in ("clone/out", "clone/crates/icserve/out", "there/bin"):
+            program = self.room / folder / "icserve"
+            ran = run("reduce", "--rich", given=text, program=program, cwd=self.room)
+            self.equals(ran.command, "how it ends", (0, b"<12,False|>\n", b""), (ran.status, ran.out, ran.err))
+        self.file("lib/bool.rich", "{Not(r) >< True => r ~ Other} <|>")
+        ran = run("reduce", "--rich", given=text, program=program, cwd=self.room)
+        self.equals(ran.command, "a library in the folder comes first", (0, b"<12,Other|>\n"), (ran.status, ran.out))
+        ran = run("reduce", "--rich", given='{use "lib/none.rich"} <|>', program=program, cwd=self.room)
+        self.equals(ran.command, "a file that isn't there", (1, b"the file that is named here can't be read"), (ran.status, ran.after.splitlines()[-1]))
+        twice = self.file("twice.rich", f'{{use "lib/nat.rich"; use "{self.room}/there/share/icserve/lib/nat.rich"}} <r|Add(1,r)=1>')
+        ran = run("reduce", twice, program=program)
+        self.equals(ran.command, "a file of the library comes once", (0, b"<2|>\n"), (ran.status, ran.out))
 
     def test_use_is_a_name_elsewhere(self):
         self.runs("expand", given="{A><B} <use|use=use1>", out="{A><B} <a|a=b>")

@@ -31,7 +31,7 @@ mod words;
 mod writing;
 
 pub use fault::{ExpandFault, Reason};
-pub use ic_rich::{Files, Wording};
+pub use ic_rich::{Files, Found, Wording};
 pub use limits::MAX_RICH_TEXT;
 pub use marks::is_marked;
 pub use opening::{Opened, open_text};

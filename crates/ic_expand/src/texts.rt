@@ -12,7 +12,7 @@ use crate::fault::{ExpandFault, Reason};
 use crate::forms::has_form;
 use crate::writing::expand;
 use ic_rich::{
-    Files, JoinFault, JoinRefusal, Joined, RichFault, Unfolded, Wording, join, sentence, unfold,
+    Files, Found, JoinFault, JoinRefusal, Joined, RichFault, Unfolded, Wording, join, sentence, unfold,
 };
 use ic_text::TextFault;
 use std::alloc::{AllocError, AllocFailed, Global};
@@ -96,6 +96,19 @@ impl<F: Files> Files for Uncommented<'_, F> {
     fn text_of(&self, alloc: Global, path: &[u8]) -> Result<Option<Vec<u8>>, AllocError> {
         match self.files.text_of(alloc, path)? {
             Some(text) => Ok(Some(without_comments(alloc, &text)?)),
+            None => Ok(None),
+        }
+    }
+
+    fn of_library(&self, alloc: Global, path: &[u8]) -> Result<Option<Found>, AllocError> {
+        match self.files.of_library(alloc, path)? {
+            Some(found) => {
+                let text = without_comments(alloc, &found.text)?;
+                Ok(Some(Found {
+                    path: found.path,
+                    text,
+                }))
+            }
             None => Ok(None),
         }
     }

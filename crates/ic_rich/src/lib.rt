@@ -28,5 +28,5 @@ pub use joined::{JoinFault, JoinRefusal, Joined, join};
 pub use sentences::sentence;
 pub use telling::{told_graph, told_line};
 pub use unfolding::{Unfolded, unfold};
-pub use uses::Files;
+pub use uses::{Files, Found};
 pub use wording::Wording;

@@ -16,6 +16,16 @@ pub trait Files {
 
     /// The text of the file of this path, without comments, or none if it can't be read.
     fn text_of(&self, alloc: Global, path: &[u8]) -> Result<Option<Vec<u8>>, AllocError>;
+
+    /// The file of the library that a text names so, as `lib/nat.rich`, or none if there is none.
+    fn of_library(&self, alloc: Global, path: &[u8]) -> Result<Option<Found>, AllocError>;
+}
+
+/// A file that was found, with its text without comments.
+#[derive(Drop)]
+pub struct Found {
+    pub path: Vec<u8>,
+    pub text: Vec<u8>,
 }
 
 /// A text with its rules.
@@ -239,31 +249,47 @@ impl Sources {
         };
         let to = match self.place_of(&full) {
             Some(to) => to,
-            None => self.read(alloc, full, root, place, files)?,
+            None => self.read(alloc, full, &path, root, place, files)?,
         };
         Ok(self.edges.push(Edge { place, to })?)
     }
 
-    /// Reads a text, and answers its place.
+    /// Reads the text of a path, or one of the library that is named so, and answers its place.
     fn read<F: Files>(
         &mut self,
         alloc: Global,
         path: Vec<u8>,
+        named: &[u8],
         root: usize,
         place: Place,
         files: &F,
+    ) -> Result<usize, UseFault> {
+        if let Some(text) = files.text_of(alloc, &path)? {
+            return self.add_new(alloc, Found { path, text }, root, place);
+        }
+        let Some(found) = files.of_library(alloc, named)? else {
+            return Err(UseFault::Refused(Reason::NoFile, place));
+        };
+        match self.place_of(&found.path) {
+            Some(to) => Ok(to),
+            None => self.add_new(alloc, found, root, place),
+        }
+    }
+
+    /// Adds a text that isn't there, and answers its place.
+    fn add_new(
+        &mut self,
+        alloc: Global,
+        found: Found,
+        root: usize,
+        place: Place,
     ) -> Result<usize, UseFault> {
         let to = self.all.len();
         if to >= MAX_FILES {
             return Err(UseFault::Refused(Reason::ManyFiles, place));
         }
-        match files.text_of(alloc, &path)? {
-            Some(text) => {
-                self.add(alloc, path, text, root)?;
-                Ok(to)
-            }
-            None => Err(UseFault::Refused(Reason::NoFile, place)),
-        }
+        self.add(alloc, found.path, found.text, root)?;
+        Ok(to)
     }
 
     /// The place of the text of a path.

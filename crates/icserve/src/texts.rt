@@ -3,8 +3,9 @@
 use crate::inspecting::open_to_read;
 use ic_causes::{NotedOutput, Notes, shown_path};
 use ic_exits::Failure;
-use ic_expand::{Files, expand_stream};
+use ic_expand::{Files, Found, expand_stream};
 use std::alloc::{AllocError, Global};
+use std::env;
 use std::io::{self, Read};
 
 /// How many bytes a file of texts has at most: 64 lines of the greatest length.
@@ -66,6 +67,54 @@ impl Files for UsedFiles<'_> {
             Err(_) => Ok(None),
         }
     }
+
+    fn of_library(&self, alloc: Global, path: &[u8]) -> Result<Option<Found>, AllocError> {
+        if !path.starts_with(b"lib/".as_slice()) {
+            return Ok(None);
+        }
+        let Ok(program) = env::current_exe(self.rt) else {
+            return Ok(None);
+        };
+        let program = program.as_str().as_bytes();
+        for place in LIBRARIES {
+            let path = library_path(alloc, program, place, path)?;
+            if let Some(text) = self.text_of(alloc, &path)? {
+                return Ok(Some(Found { path, text }));
+            }
+        }
+        Ok(None)
+    }
+}
+
+/// Where `lib/` stands: how many parts of the program's path are left out, and what follows. First as it is installed, and then
+/// as it stands in a clone in which the program was built.
+const LIBRARIES: [(usize, &[u8]); 3] = [(2, b"/share/icserve/"), (2, b"/"), (4, b"/")];
+
+/// The path of a file of a library.
+fn library_path(
+    alloc: Global,
+    program: &[u8],
+    place: (usize, &[u8]),
+    path: &[u8],
+) -> Result<Vec<u8>, AllocError> {
+    let mut folder = program;
+    for _ in 0..place.0 {
+        folder = parent_of(folder);
+    }
+    let mut full = folder.to_vec(alloc)?;
+    full.extend_from_slice(place.1)?;
+    full.extend_from_slice(path)?;
+    Ok(full)
+}
+
+/// A path without its last part.
+fn parent_of(path: &[u8]) -> &[u8] {
+    for end in (0..path.len()).rev() {
+        if path[end] == b'/' {
+            return &path[..end];
+        }
+    }
+    &path[..0]
 }
 
 /// Prints the text of the calculus for which a text stands. Where the text is refused, the lines that tell its place are
