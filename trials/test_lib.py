@@ -93,9 +93,11 @@ class Library(Trial):
 
     def test_each_rich_example_answers_as_the_plain_one_beside_it(self):
         tried = [it for it in TOP.glob("examples/*.rich") if it.with_suffix(".ic").exists()]
-        self.equals("examples/", "rich ones beside plain ones", 6, len(tried))
+        self.equals("examples/", "rich ones beside plain ones", 8, len(tried))
         for path in tried:
-            self.runs("reduce", given=self.expanded(path.read_text()), out=run("reduce", path.with_suffix(".ic")).out)
+            words = ("reduce", "--rounds", 9) if path.stem == "unending" else ("reduce",)
+            plain = run(*words, path.with_suffix(".ic"))
+            self.runs(*words, given=self.expanded(path.read_text()), out=plain.out, err=plain.err, status=plain.status)
 
     def test_numbers_in_unary(self):
         draw = random.Random(f"{SEED} nat")

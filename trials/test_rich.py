@@ -1,6 +1,7 @@
 """Forms of rich texts: worked examples whose answers are written by hand, drawn texts, and one fault in each of others."""
 
 import random
+import re
 import resource
 
 import rich
@@ -90,8 +91,26 @@ REFUSED = {
     "of a copier on the same line": ("{A(x)><B=>x~C;copy dup} <|>", (1, 20), "copy and erase need a symbol: A to Z or 0 to 9, and then letters and digits"),
 }
 
+# What may stand first in a configuration, where its fault is, and what is told of it.
+FORM_FAULTS = [
+    ("a pair of one", "(A)", 2),
+    ("a pair of three", "(A,[B],3,T)", 6),
+    ("a list that isn't closed", "T([A,1)", 6),
+    ("two rests", "[A|q_1,T]", 6),
+    ("no list", "T(A]", 3),
+    ("a power", "S^x(A)", 2),
+    ("a power alone", "S^7", 2),
+]
+
 # What is told of each fault that is drawn.
 TELLS = {
+    "a pair of one": "a pair has two terms, as (a,b)",
+    "a pair of three": "a pair has two terms, as (a,b)",
+    "a list that isn't closed": ", or ] is looked for here",
+    "two rests": ", or ] is looked for here",
+    "no list": "no list is open here",
+    "a power": "after ^ a number and a term in parentheses",
+    "a power alone": "after ^ a number and a term in parentheses",
     "not right": "this one doesn't: to erase it",
     "twice left": "stands there twice",
     "twice right": "this one twice: to copy it",
@@ -203,18 +222,38 @@ class Drawn(Trial):
             lines = text.count("\n")
             self.equals(ran.command, "how many lines", lines, ran.out.count(b"\n"))
 
-    def test_each_fault_is_told_at_its_place(self):
+    def drawn_fault(self, draw):
+        """A text with one fault, which it is, and its place."""
+        if draw.random() < 0.4:
+            _, text = rich.drawn_shorthands(draw, SHORT_SYMBOLS, WORDS, draw.randint(0, 3))
+            shown = re.sub(r"#[^\n]*", lambda it: " " * len(it[0]), text)
+            kind, spoilt, shift = draw.choice(FORM_FAULTS)
+            at = shown.rindex("<") + 1
+            return text[:at] + spoilt + draw.choice(["", ","]) + text[at:], kind, place_in(text[:at] + spoilt, at + shift)
+        rules = [arrow for _, arrow in self.rules(draw, draw.randint(1, 3))]
+        spoilt, kind, at = faulty(draw, rules[-1])
+        front = "{" + "".join(it + ";" for it in rules[:-1])
+        return f"{front}{spoilt}}} <|>", kind, place_in(front + spoilt, len(front) + at)
+
+    def test_each_of_5000_faults_is_told_at_its_place(self):
         draw = random.Random(f"{SEED} faults")
-        for _ in range(500):
-            rules = [arrow for _, arrow in self.rules(draw, draw.randint(1, 3))]
-            spoilt, kind, at = faulty(draw, rules[-1])
-            front = "{" + "".join(it + ";" for it in rules[:-1])
-            ran = run("expand", given=f"{front}{spoilt}}} <|>")
-            line, column = place_in(front + spoilt, len(front) + at)
-            lines = ran.after.decode().splitlines() or ["", ""]
-            self.equals(ran.command, "how it ends", (1, b"icserve: bad syntax\n"), (ran.status, ran.err))
-            self.equals(ran.command, f"the place of {kind}", f"line {line}, column {column}", lines[0])
-            self.equals(ran.command, f"what is told of {kind}: {lines[-1]}", True, TELLS[kind] in lines[-1])
+        for _ in range(10):
+            drawn = [self.drawn_fault(draw) for _ in range(500)]
+            for number, (text, _, _) in enumerate(drawn):
+                (self.room / f"{number}.rich").write_text(text)
+            ran = run("check", *(f"{number}.rich" for number in range(500)), cwd=self.room)
+            self.equals("check", "status, and how many faults are told", (1, 500), (ran.status, ran.out.count(b"\n")))
+            for number, ((text, kind, (line, column)), told) in enumerate(zip(drawn, ran.out.decode().splitlines())):
+                self.equals(text, f"the place of {kind}: {told}", f"{number}.rich:{line}:{column}: bad syntax: ", told[: told.index("syntax: ") + 8])
+                self.equals(text, f"what is told of {kind}: {told}", True, TELLS[kind] in told)
+
+    def test_texts_with_shorthands_reduce_to_the_same(self):
+        draw = random.Random(f"{SEED} reduced")
+        for _ in range(60):
+            wanted, text = rich.drawn_shorthands(draw, SHORT_SYMBOLS, WORDS, draw.randint(1, 8))
+            ends = [run("reduce", "--rich", "--plain", "--workers", 1, "--steps", 300, given=it) for it in (wanted, text)]
+            self.equals(ends[1].command, "how both end", ends[0].status, ends[1].status)
+            self.equals(ends[1].command, "what they come to", *(rich.canonical(it.out.decode()) for it in ends))
 
     def test_spoilt_texts_are_written_or_refused(self):
         draw = random.Random(f"{SEED} spoilt")

@@ -90,6 +90,9 @@ class Answers(Trial):
     def test_the_library_and_the_examples_are_read_again(self):
         for path in sorted([*TOP.glob("lib/*.rich"), *TOP.glob("examples/*.rich")]):
             text = path.read_text()
+            if path.stem == "unending":
+                self.is_read_again(text, "reduce", "--rounds", 6)
+                continue
             self.is_read_again(text, "reduce")
             told = run("reduce", path)
             self.runs("reduce", "--rich", given=f"{declared(text)}{told.out.decode()}", out=told.out)
