@@ -1,12 +1,30 @@
 -- What was kept on the way of a reduction, and what a state leads to.
-use Rattle.std.proofs.Common.{◌≡◌, ◌⊎◌, ⊎_elim, ◌∙◌, ℕ, ◌≤◌, Bool, true, List, Ok, Err, length, refl, sym, ap, subst, arith}
+use Rattle.std.proofs.Common.{◌≡◌, ◌≢◌, ◌⊎◌, inl, inr, ⊎_elim, ◌∙◌, ℕ, ◌<◌, ◌≤◌, Bool, true, List, Ok, Err, length, max, refl, sym, ap, subst, arith}
+use Rattle.std.specs.Prelude.{◌↔◌, IsNone}
+use Rattle.std.specs.List.{AllByRecursion}
+use Rattle.std.proofs.lemmas.Bool.{cases_lt}
+use Rattle.ic_disk.specs.declared.disk.Disk.{Ghosts}
+use Rattle.ic_in_place.specs.declared.running.Bounds.{Bounds}
+use Rattle.ic_in_place.specs.declared.running.End.{End}
+use Rattle.ic_in_place.specs.declared.running.End.TheVariants.{Quiet}
+use Rattle.ic_in_place.specs.declared.stream.Asked.{Asked}
+use Rattle.ic_kept.specs.lemmas.CourseLaws.{kept_after}
+use Rattle.ic_state.specs.declared.state.State.{State}
 use Rattle.ic_frames.specs.declared.faults.KeepFault.{KeepFault}
 use Rattle.ic_kept.specs.declared.keeper.Keeper.{Keeper}
 use Rattle.ic_kept.specs.Course.{IsKeep, Course, Way, no_keep, one_more, all_answered, last_refused, Leads, stays, goes_on}
 use Rattle.ic_rules.specs.System.{SystemParts}
 use Rattle.ic_term.specs.declared.limits.TheConstants.{MAX_WIDE_NODES}
-use Rattle.ic_state.specs.State.{Kept, IsKept, state_bytes}
-use Rattle.ic_keeping.specs.Way.{GoesFurther, IsAsFar, IsFormFrom, IsKeptAfter, IsReachedFrom, IsStateOf}
+use Rattle.ic_state.specs.State.{Kept, IsKept, kept_by, state_bytes}
+use Rattle.ic_state.specs.Words.{IsKeptWord}
+use Rattle.ic_keeping.specs.declared.fault.KeepingFault.{KeepingFault}
+use Rattle.ic_keeping.specs.declared.fault.KeepingFault.TheVariants.{Limit, Memory}
+use Rattle.ic_keeping.specs.declared.going.Ended.{Ended}
+use Rattle.ic_keeping.specs.inner.Pieces.{ComesTogether, StopsAPiece}
+use Rattle.ic_keeping.specs.Life.{GoesOn, HasAsFar, HasRun, HasState, IsTold, StopsARun, StopsFrom}
+use Rattle.ic_keeping.specs.Way.{GoesFurther, IsAnswer, IsAsFar, IsFormFrom, IsKeptAfter, IsReachedFrom, IsStateOf}
+use Rattle.ic_keeping.proofs.Refusing.{of_two}
+use Rattle.ic_keeping.proofs.WayLemmas.{past_state}
 
 no_less : (n : ℕ) (ended : Bool) (k : Kept) → GoesFurther n ended k → n ≤ k.interactions
 no_less n ended k further = ⊎_elim (λ more. omega (arith, more)) (λ same. omega (arith, same.0)) further
@@ -24,6 +42,27 @@ leads_form one s first is_kept is bytes last same (goes_on x state next leads af
       omega (arith, was.3, ap (λ (k : Kept). k.interactions) before, no_less after.before.interactions after.before.ended after.after after.further),
       after.new_is,
     )
+
+-- what is told at an end is told of the state with its last piece
+pub run_is : (s : SystemParts) (bounds : Bounds) (asked : Asked) (k : Kept) (state : State) (e : End) (run : Ended) → run.state ≡ state → run.end ≡ e → IsAnswer s bounds e (kept_by state)
+    → IsTold s asked run → IsReachedFrom s k (kept_by state) → HasRun s bounds asked k run
+run_is s bounds asked k state e run same ends answer told onward = record {
+  answer = subst (λ (x : End). IsAnswer s bounds x (kept_by run.state)) (sym ends) (subst (λ (x : State). IsAnswer s bounds e (kept_by x)) (sym same) answer);
+  told = told;
+  onward = subst (λ (x : State). IsReachedFrom s k (kept_by x)) (sym same) onward;
+}
+
+-- how far a run from any state has gone on with such a state
+pub record GoneTo (bounds : Bounds) (old : State) (e : End) (state : State) : Type 0 where
+  pub later : old.interactions ≤ state.interactions
+  pub within : state.interactions ≤ max bounds.steps old.interactions
+  pub millis : old.millis ≤ state.millis
+  pub ended : (state.ended ≡ true) ↔ (e ≡ Quiet)
+
+pub goes_on_so : (bounds : Bounds) (old state : State) (e : End) (run : Ended) → run.state ≡ state → run.end ≡ e → GoneTo bounds old e state → (run.end ≢ Quiet → IsNone run.stuck) → GoesOn bounds (kept_by old) run
+goes_on_so bounds old state e run same ends to unstuck =
+    let is = subst (λ (x : End). GoneTo bounds old x run.state) (sym ends) (subst (λ (x : State). GoneTo bounds old e x) (sym same) to) in
+    record { later = is.later; within = is.within; millis = is.millis; ended = is.ended; unstuck = unstuck }
 
 module _ {D : Type 0} (keeps_model : D → Bool) (image : D → List ℕ → Type 0) (clock : D → ℕ) (left : D → ℕ → List ℕ → Type 0) (s : SystemParts) (first : Kept) (start : Keeper D) where
   -- A keeper has a state that goes as far as this one, and from which this one is reached. It has ended or not.
@@ -103,3 +142,44 @@ module _ {D : Type 0} (keeps_model : D → Bool) (image : D → List ℕ → Typ
       (λ same. subst (λ (n : Keeper D). Way keeps_model image clock left (IsKeptAfter s) (state_bytes first) start n) (sym same) (way_of k ended keeper has))
       (λ refused. last_refused (state_bytes first) (state_bytes has.kept) (state_bytes new) start keeper now refused.0 has.course (comes k new ended keeper has onward refused.2 refused.1 refused.3) refused.4)
       done
+
+-- what was kept goes as far as what a run has come to
+pub as_far_as : {D : Type 0} (disk : Ghosts D) (s : SystemParts) (first : Kept) (start now : Keeper D) (state : State) (ended : Bool) (run : Ended) → run.state ≡ state
+    → HasKept disk.keeps disk.image disk.clock disk.left s first start (kept_by state) ended now → HasState disk first start → HasAsFar disk s (kept_by run.state) now
+as_far_as disk s first start now state ended run same has began =
+    let after = kept_after disk.keeps disk.image disk.clock disk.left (IsKeptAfter s) start now (state_bytes first) (state_bytes has.kept) began.0 began.1 has.course in
+    record {
+      kept = has.kept;
+      is_kept = has.is_kept;
+      onward = subst (λ (x : State). IsReachedFrom s has.kept (kept_by x)) (sym same) has.onward;
+      as_far = subst (λ (x : State). IsAsFar has.kept (kept_by x)) (sym same) has.as_far;
+      has = (after.0, after.1);
+    }
+
+-- a piece that has stopped stops the run, and so does a keep that was refused after one
+pub stops_in_piece : (s : SystemParts) (first : Kept) (state : State) (fault : KeepingFault) → IsReachedFrom s first first → (kept_by state ≡ first) ⊎ ComesTogether s first (kept_by state)
+    → StopsAPiece s first state fault → StopsFrom s first fault
+stops_in_piece s first state fault itself together stops = record {
+  stops = of_two fault stops.stops;
+  limit = λ limit. ⊎_elim (λ many. past_state s first (kept_by state) itself together many) (λ past. past) (stops.limit limit);
+}
+
+pub stops_in_keep : (s : SystemParts) (first : Kept) (state : State) (fault : KeepingFault) → IsReachedFrom s first first → ComesTogether s first (kept_by state)
+    → (length state.words.items ≤ MAX_WIDE_NODES → AllByRecursion IsKeptWord state.words.items) → StopsARun fault
+    → (fault ≡ Limit → (MAX_WIDE_NODES < length state.words.items) ⊎ ¬ AllByRecursion IsKeptWord state.words.items) → StopsFrom s first fault
+stops_in_keep s first state fault itself together numbered stops limits = record {
+  stops = stops;
+  limit = λ limit. ⊎_elim
+      (λ many. past_state s first (kept_by state) itself (inr together) many)
+      (λ few. ⊎_elim
+      (λ many. past_state s first (kept_by state) itself (inr together) many)
+      (λ unnumbered. absurd (unnumbered (numbered few)))
+      (limits limit))
+      (cases_lt MAX_WIDE_NODES (length state.words.items));
+}
+
+pub stops_for_memory : (s : SystemParts) (first : Kept) (fault : KeepingFault) → fault ≡ Memory → StopsFrom s first fault
+stops_for_memory s first fault memory = record {
+  stops = inl memory;
+  limit = λ limit. absurd (let e : Memory ≡ Limit = sym memory ∙ limit in cc);
+}

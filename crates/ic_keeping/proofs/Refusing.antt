@@ -5,22 +5,26 @@ use Rattle.std.specs.List.{AllByRecursion}
 use Rattle.std.proofs.lemmas.Bool.{cases_lt, false_from_ne_true}
 use Rattle.ic_frames.specs.declared.faults.KeepFault.{KeepFault}
 use Rattle.ic_frames.specs.declared.faults.KeepFault.TheVariants.{Broken, Worn, Device}
-use Rattle.ic_frames.specs.declared.faults.OpenCause.TheVariants as opening
 use Rattle.ic_kept.specs.declared.keeper.Keeper.{Keeper}
 use Rattle.ic_kept.specs.Keeper.{is_broken, newest_of, number_of, other_of}
 use Rattle.ic_kept.specs.Keeping.{FaultLeaves}
 use Rattle.ic_kept.specs.Opening.{InSomeOrder}
+use Rattle.ic_rules.specs.System.{SystemParts}
+use Rattle.ic_state.specs.declared.state.State.{State}
+use Rattle.ic_state.specs.State.{Kept}
 use Rattle.ic_term.specs.Configuration.{Configuration, IsWide, configuration_names, configuration_nodes, occurrences, restored_if, third_occurrence, unless_third, wide_restored}
 use Rattle.ic_term.specs.declared.config.ConfigFault.TheVariants.{Name}
 use Rattle.ic_term.specs.declared.config.ConfigFault.TheVariants as config
 use Rattle.ic_term.specs.declared.limits.TheConstants.{MAX_NEXT, MAX_WIDE_NODES}
 use Rattle.ic_term.specs.Symbol.{Symbol, is_over}
 use Rattle.ic_term.specs.Tree.{Tree, Pair}
+use Rattle.ic_keeping.specs.declared.beginning.ResumeFault.{ResumeFault}
 use Rattle.ic_keeping.specs.declared.fault.KeepingFault.{KeepingFault}
 use Rattle.ic_frames.specs.declared.faults.OpenCause.{OpenCause}
 use Rattle.ic_keeping.specs.declared.fault.KeepingFault.TheVariants.{Keep, Limit, Memory, NotEmpty, Open, Unsound}
 use Rattle.ic_keeping.specs.declared.fault.KeepingFault.TheVariants as keeping
-use Rattle.ic_keeping.specs.Life.{KeepFails, StopsARun}
+use Rattle.ic_keeping.specs.Life.{HandsBack, KeepFails, RefusesFiles, StopsARun, TellsOfKeeper}
+use Rattle.ic_keeping.specs.inner.Pieces.{IsOfAPiece, StopsAPiece}
 
 device_is_not_broken : ◌≢◌ {A = Result (Unit {0}) KeepFault} (Err Device) (Err Broken)
 device_is_not_broken = λ same. cc
@@ -132,32 +136,60 @@ run_not_device fault (inr (inl limit)) same = let e : keeping.Device ≡ Limit =
 run_not_device fault (inr (inr kept)) same = let e : keeping.Device ≡ Keep kept.0 = sym same ∙ kept.1 in cc
 
 -- the disks of a keeper that was left as it was are those that were opened
-pub as_read : {D : Type 0} (R : D → D → Type 0) (first second one other : D) (k n : Keeper D) → one ≡ newest_of n → other ≡ other_of n → n ≡ k
-    → InSomeOrder R first second (newest_of k) (other_of k) → InSomeOrder R first second one other
-as_read {D} R first second one other k n is is_too stayed reads =
-    subst (λ (x : D). InSomeOrder R first second x other) (sym (is ∙ ap (λ (j : Keeper D). newest_of j) stayed))
-    (subst (λ (y : D). InSomeOrder R first second (newest_of k) y) (sym (is_too ∙ ap (λ (j : Keeper D). other_of j) stayed)) reads)
-
--- and a life, too, where it can't open its disks
-pub as_a_life : (fault : KeepingFault) → (fault ≡ Open opening.Device) ⊎ (fault ≡ Open opening.Memory) ⊎ (fault ≡ Memory)
-    → (fault ≡ Open opening.Device) ⊎ (fault ≡ Open opening.Memory) ⊎ StopsARun fault
-as_a_life fault (inl device) = inl device
-as_a_life fault (inr (inl memory)) = inr (inl memory)
-as_a_life fault (inr (inr memory)) = inr (inr (inl memory))
+pub as_read : {D : Type 0} (R : D → D → Type 0) (first second : D) (k n : Keeper D) (fault : ResumeFault D) → HandsBack n fault → n ≡ k
+    → InSomeOrder R first second (newest_of k) (other_of k) → InSomeOrder R first second fault.first fault.second
+as_read {D} R first second k n fault back stayed reads =
+    subst (λ (x : D). InSomeOrder R first second x fault.second) (sym (back.0 ∙ ap (λ (j : Keeper D). newest_of j) stayed))
+    (subst (λ (y : D). InSomeOrder R first second (newest_of k) y) (sym (back.1 ∙ ap (λ (j : Keeper D). other_of j) stayed)) reads)
 
 -- an opening is not refused as a keep is
-pub opening_keeps_none : (fault : KeepingFault) → ((cause : OpenCause) × (fault ≡ Open cause)) ⊎ (fault ≡ Unsound) ⊎ (fault ≡ Memory) → (cause : KeepFault) → fault ≡ Keep cause → ⊥
+pub opening_keeps_none : (fault : KeepingFault) → RefusesFiles fault → (cause : KeepFault) → fault ≡ Keep cause → ⊥
 opening_keeps_none fault (inl opened) cause same = let e : Open opened.0 ≡ Keep cause = sym opened.1 ∙ same in cc
 opening_keeps_none fault (inr (inl unsound)) cause same = let e : Unsound ≡ Keep cause = sym unsound ∙ same in cc
 opening_keeps_none fault (inr (inr memory)) cause same = let e : Memory ≡ Keep cause = sym memory ∙ same in cc
 
--- what refuses a state's text or its counts is no limit
-pub text_not_limit : (fault : KeepingFault) → (fault ≡ Unsound) ⊎ (fault ≡ Memory) → fault ≡ Limit → ⊥
-text_not_limit fault (inl unsound) same = let e : Unsound ≡ Limit = sym unsound ∙ same in cc
-text_not_limit fault (inr memory) same = let e : Memory ≡ Limit = sym memory ∙ same in cc
+piece_keeps_none : (fault : KeepingFault) → IsOfAPiece fault → (cause : KeepFault) → fault ≡ Keep cause → ⊥
+piece_keeps_none fault (inl unsound) cause same = let e : Unsound ≡ Keep cause = sym unsound ∙ same in cc
+piece_keeps_none fault (inr (inl memory)) cause same = let e : Memory ≡ Keep cause = sym memory ∙ same in cc
+piece_keeps_none fault (inr (inr limit)) cause same = let e : Limit ≡ Keep cause = sym limit ∙ same in cc
 
--- nor is what refuses its files
-pub opening_not_limit : (fault : KeepingFault) → (fault ≡ Open opening.Device) ⊎ (fault ≡ Open opening.Memory) ⊎ (fault ≡ Memory) → fault ≡ Limit → ⊥
-opening_not_limit fault (inl device) same = let e : Open opening.Device ≡ Limit = sym device ∙ same in cc
-opening_not_limit fault (inr (inl memory)) same = let e : Open opening.Memory ≡ Limit = sym memory ∙ same in cc
-opening_not_limit fault (inr (inr memory)) same = let e : Memory ≡ Limit = sym memory ∙ same in cc
+piece_opens_none : (fault : KeepingFault) → IsOfAPiece fault → (cause : OpenCause) → fault ≡ Open cause → ⊥
+piece_opens_none fault (inl unsound) cause same = let e : Unsound ≡ Open cause = sym unsound ∙ same in cc
+piece_opens_none fault (inr (inl memory)) cause same = let e : Memory ≡ Open cause = sym memory ∙ same in cc
+piece_opens_none fault (inr (inr limit)) cause same = let e : Limit ≡ Open cause = sym limit ∙ same in cc
+
+-- what the fault of a piece says of the keeper, and that of a run
+pub tells_of_piece : {D : Type 0} (old new : Keeper D) (fault : KeepingFault) → IsOfAPiece fault → (fault ≡ Unsound → new ≡ old) → TellsOfKeeper old new fault
+tells_of_piece old new fault piece unsound = record {
+  failed = λ cause same. absurd (piece_keeps_none fault piece cause same);
+  unsound = unsound;
+  unopened = λ cause same. piece_opens_none fault piece cause same;
+}
+
+pub tells_of_run : {D : Type 0} (old new : Keeper D) (fault : KeepingFault) → StopsARun fault → ((cause : KeepFault) → fault ≡ Keep cause → KeepFails cause old new) → TellsOfKeeper old new fault
+tells_of_run old new fault stops fails = record {
+  failed = fails;
+  unsound = λ same. absurd (run_not_unsound fault stops same);
+  unopened = λ cause same. run_unopened fault stops cause same;
+}
+
+-- no text that was kept is refused as a keep is, nor as files are that hold none
+pub text_keeps_none : (fault : KeepingFault) → (fault ≡ Unsound) ⊎ (fault ≡ Memory) → (cause : KeepFault) → fault ≡ Keep cause → ⊥
+text_keeps_none fault (inl unsound) cause same = let e : Unsound ≡ Keep cause = sym unsound ∙ same in cc
+text_keeps_none fault (inr memory) cause same = let e : Memory ≡ Keep cause = sym memory ∙ same in cc
+
+pub text_opens_none : (fault : KeepingFault) → (fault ≡ Unsound) ⊎ (fault ≡ Memory) → (cause : OpenCause) → fault ≡ Open cause → ⊥
+text_opens_none fault (inl unsound) cause same = let e : Unsound ≡ Open cause = sym unsound ∙ same in cc
+text_opens_none fault (inr memory) cause same = let e : Memory ≡ Open cause = sym memory ∙ same in cc
+
+pub piece_without_memory : (s : SystemParts) (first : Kept) (old : State) (fault : KeepingFault) → fault ≡ Memory → StopsAPiece s first old fault
+piece_without_memory s first old fault memory = record {
+  stops = inl memory;
+  limit = λ limit. absurd (let e : Memory ≡ Limit = sym memory ∙ limit in cc);
+}
+
+pub tells_of_memory : {D : Type 0} (old new : Keeper D) (fault : KeepingFault) → fault ≡ Memory → TellsOfKeeper old new fault
+tells_of_memory old new fault memory = tells_of_piece old new fault (inr (inl memory)) (λ same. absurd (let e : Memory ≡ Unsound = sym memory ∙ same in cc))
+
+pub tells_of_limit : {D : Type 0} (old new : Keeper D) → TellsOfKeeper old new Limit
+tells_of_limit old new = tells_of_piece old new Limit (inr (inr refl)) (λ same. absurd (cc (same)))

@@ -34,7 +34,7 @@ use Rattle.ic_round.specs.Quiet.{IsQuiet}
 use Rattle.ic_state.specs.State.{Kept}
 use Rattle.ic_state.specs.Words.{IsKeptWord}
 use Rattle.ic_keeping.specs.inner.Pieces.{ComesTogether, IsWritten}
-use Rattle.ic_keeping.specs.Way.{AreRulesOf, AreSums, ComesPastLimits, EndsWithin, IsAnswer, IsOnWay, IsReachedFrom, IsSound, IsStateOf}
+use Rattle.ic_keeping.specs.Way.{AreSums, ComesPastLimits, EndsWithin, IsAnswer, IsOnWay, IsReachedFrom, IsSound, IsStateOf}
 use Rattle.ic_keeping.proofs.LowNames.{TellingLaws, low_words}
 use Rattle.ic_keeping.proofs.Quiet.{QuietLaws, quiet_too}
 
@@ -390,8 +390,8 @@ itself_reached itself names s k is = record {
 }
 
 -- rules that are those of each reading of its text are those of its system
-pub are_rules : (s : SystemParts) (k : Kept) (rules : Rules) → IsStateOf s k → ((read : SystemParts) → ReadsSystemWithin Wide k.text (Ok read) → rules ≡ read.rules) → AreRulesOf s rules
-are_rules s k rules is told = record { same = told is.read is.reads ∙ is.rules; sound = is.sound }
+pub are_rules : (s : SystemParts) (k : Kept) (rules : Rules) → IsStateOf s k → ((read : SystemParts) → ReadsSystemWithin Wide k.text (Ok read) → rules ≡ read.rules) → rules ≡ s.rules
+are_rules s k rules is told = told is.read is.reads ∙ is.rules
 
 -- A text from which no interaction was made.
 pub begun_on_way : (s : SystemParts) (by : List ℕ) → ((rs : List Rule) (c : Configuration) → HasNames c → Reaches rs c c []) → HasNames s.config → length by ≡ length s.rules.rules

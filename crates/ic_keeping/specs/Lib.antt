@@ -1,4 +1,3 @@
 pub mod Way
-pub mod Disks
 pub mod Life
 pub mod inner

@@ -4,7 +4,7 @@ use Rattle.ic_term.specs.Configuration.{Configuration, configuration_nodes}
 use Rattle.ic_term.specs.Symbol.{is_over}
 use Rattle.ic_term.specs.declared.limits.TheConstants.{MAX_WIDE_NODES}
 use Rattle.ic_rules.specs.Rule.{Rule}
-use Rattle.ic_rules.specs.RuleSet.{IsRuleSet, Rules}
+use Rattle.ic_rules.specs.RuleSet.{IsRuleSet}
 use Rattle.ic_rules.specs.System.{SystemParts}
 use Rattle.ic_flat.specs.Flat.{configuration_of}
 use Rattle.ic_flat.specs.Words.{forest, IsWhole}
@@ -90,11 +90,6 @@ pub record IsBegun (s : SystemParts) (k : Kept) : Type 0 where
   pub none : k.interactions ≡ 0
   pub goes_on : k.ended ≡ false
   pub millis : k.millis ≡ 0
-
--- these are the rules of this system, which keeps what those do that were read
-pub record AreRulesOf (s : SystemParts) (rules : Rules) : Type 0 where
-  pub same : rules ≡ s.rules
-  pub sound : IsSound s
 
 -- What an end says of what was reached, by so many interactions of all runs.
 abbrev pub EndsWithin : List Rule → Bounds → Configuration → (interactions : ℕ) → End → Type 0

@@ -8,15 +8,14 @@ ghost use Rattle.ic_disk.specs.Time.{OneMore};
 ghost use Rattle.ic_frames.specs.declared.faults.OpenCause.{OpenCause};
 ghost use Rattle.ic_kept.specs.Course.{HoldOne};
 ghost use Rattle.ic_kept.specs.Held.{Answers, Hold};
-ghost use Rattle.ic_kept.specs.Keeper.{is_broken, Keeps, KeepsModel};
-ghost use Rattle.ic_kept.specs.Opening.{OnlyReads};
+ghost use Rattle.ic_kept.specs.Keeper.{is_broken, newest_of, other_of};
 ghost use Rattle.ic_kept.specs.Sheet.{IsNewest, IsShut};
 ghost use Rattle.ic_rules.specs.System.{SystemParts};
 ghost use Rattle.ic_state.specs.State.{IsKept, Kept, kept_by, state_bytes};
 ghost use Rattle.ic_state.specs.Words.{IsKeptWord};
 ghost use Rattle.ic_text.specs.SystemText.{ReadsSystemWithin};
-ghost use Rattle.ic_keeping.specs.Disks.{Relates};
-ghost use Rattle.ic_keeping.specs.Way.{AreRulesOf, IsBegun, IsFormOf, IsStateOf};
+ghost use Rattle.ic_keeping.specs.Life.{AreEmpty, AreRead, HandsBack, HasFailed, HoldAState, IsOpened, IsRead, KeepModel, RefusesFiles, StopsABegin, StopsAnOpening};
+ghost use Rattle.ic_keeping.specs.Way.{IsBegun, IsFormOf, IsStateOf};
 
 use crate::fault::KeepingFault;
 use crate::systems::systems_are_sound;
@@ -42,7 +41,7 @@ pub struct Start {
 pub fn begun(alloc: Global, text: &[u8]) -> Result<Start, Misread>
     ensures read { IfOk result (λ begun. (s : SystemParts)
         × ReadsSystemWithin Limits.Wide text.now (Ok s) × IsBegun s (kept_by begun.state)
-        × AreRulesOf s (arc_value begun.rules)) }
+        × (arc_value begun.rules ≡ s.rules)) }
     // The text that is kept with it is read as a system with the same rules, and is no longer.
     ensures short { IfOk result (λ begun. length begun.state.text.items ≤ length text.now) }
     ensures refused { IfErr result (λ misread. misread.fault ≢ TextFault.Memory
@@ -93,26 +92,21 @@ pub fn begin<D: Disk>(
 
     // A file that holds something is refused, and then nothing is written. Nor is anything at any other answer.
     ensures empty { IsTrue (D.keeps first.old) → IsTrue (D.keeps second.old)
-        → OnOk result ((D.content first.old ≡ []) × (D.content second.old ≡ [])) }
+        → OnOk result (AreEmpty D.Disk first.old second.old) }
     ensures spares_first { IsTrue (D.keeps first.old) → IsErrOf result KeepingFault.NotEmpty
-        → OnlyReads D.keeps D.content D.image D.clock D.left first.old first.new }
+        → IsRead D.Disk first.old first.new }
     ensures spares_second { IsTrue (D.keeps second.old) → IsErrOf result KeepingFault.NotEmpty
-        → OnlyReads D.keeps D.content D.image D.clock D.left second.old second.new }
+        → IsRead D.Disk second.old second.new }
     ensures leaves_first { IsTrue (D.keeps first.old) → IsTrue (D.keeps second.old)
-        → ¬ ((D.content first.old ≡ []) × (D.content second.old ≡ []))
-        → OnlyReads D.keeps D.content D.image D.clock D.left first.old first.new }
+        → ¬ AreEmpty D.Disk first.old second.old → IsRead D.Disk first.old first.new }
     ensures leaves_second { IsTrue (D.keeps first.old) → IsTrue (D.keeps second.old)
-        → ¬ ((D.content first.old ≡ []) × (D.content second.old ≡ []))
-        → OnlyReads D.keeps D.content D.image D.clock D.left second.old second.new }
+        → ¬ AreEmpty D.Disk first.old second.old → IsRead D.Disk second.old second.new }
     ensures not_empty { IsTrue (D.keeps first.old) → IsTrue (D.keeps second.old)
-        → IsErrOf result KeepingFault.NotEmpty
-        → ¬ ((D.content first.old ≡ []) × (D.content second.old ≡ [])) }
+        → IsErrOf result KeepingFault.NotEmpty → ¬ AreEmpty D.Disk first.old second.old }
 
     // There is no other refusal: where a call has failed, where a word of the state has no number, or where memory runs out.
     // After these two the disks are as they were.
-    ensures refused { IfErr result (λ fault. (fault ≡ KeepingFault.NotEmpty)
-        ⊎ (fault ≡ KeepingFault.Device) ⊎ (fault ≡ KeepingFault.Limit)
-        ⊎ (fault ≡ KeepingFault.Memory)) }
+    ensures refused { IfErr result StopsABegin }
     ensures device { IsErrOf result KeepingFault.Device
         → OneMore (D.failures first.old) (D.failures first.new)
         ⊎ OneMore (D.failures second.old) (D.failures second.new) }
@@ -171,71 +165,69 @@ pub fn resume<D: Disk>(
     second: D,
 ) -> Result<(Keeper<D>, State), ResumeFault<D>>
     // It answers by what reads give, and that state is kept from then on.
-    ensures found { IsTrue (D.keeps first) → IsTrue (D.keeps second)
-        → IfOk result (λ found.
-        Hold (state_bytes (kept_by found.1)) (D.content first) (D.content second)) }
+    ensures found { KeepModel D.Disk first second
+        → IfOk result (λ found. IsOpened D.Disk (kept_by found.1) first second found.0) }
     ensures sound { IfOk result (λ found. IsKept (kept_by found.1)) }
-    ensures kept { IsTrue (D.keeps first) → IsTrue (D.keeps second)
-        → IfOk result (λ found. KeepsModel D.keeps found.0
-        × Keeps D.image (state_bytes (kept_by found.1)) found.0) }
     ensures ready { IfOk result (λ found. is_broken found.0 ≡ false) }
 
     // Where a state of a reduction was kept, the answer is one of that reduction, unless a call fails or memory runs out.
-    ensures state { (s : SystemParts) → IsTrue (D.keeps first) → IsTrue (D.keeps second)
-        → HoldOne (IsFormOf s) (D.content first) (D.content second)
-        → IfOk result (λ found. IsStateOf s (kept_by found.1)) }
-    ensures refused { (s : SystemParts) → IsTrue (D.keeps first) → IsTrue (D.keeps second)
-        → HoldOne (IsFormOf s) (D.content first) (D.content second)
-        → IfErr result (λ fault. (fault.cause ≡ KeepingFault.Open OpenCause.Device)
-        ⊎ (fault.cause ≡ KeepingFault.Open OpenCause.Memory)
-        ⊎ (fault.cause ≡ KeepingFault.Memory)) }
+    ensures state { (s : SystemParts) (least : ℕ) → HoldAState D.Disk s least first second
+        → IfOk result (λ found. IsStateOf s (kept_by found.1) × (least ≤ found.1.interactions)) }
+    ensures refused { (s : SystemParts) (least : ℕ) → HoldAState D.Disk s least first second
+        → IfErr result (λ fault. StopsAnOpening fault.cause) }
     ensures device { IfErr result (λ fault. fault.cause ≡ KeepingFault.Open OpenCause.Device
-        → OneMore (D.failures first) (D.failures fault.first)
-        ⊎ OneMore (D.failures second) (D.failures fault.second)) }
+        → HasFailed D.Disk first second fault) }
 
-    // What it says of the files is pinned, and there is no other refusal than these three.
-    ensures named { IsTrue (D.keeps first) → IsTrue (D.keeps second)
+    // What it says of the files is pinned, and there is no other refusal. It has only read them.
+    ensures named { KeepModel D.Disk first second
         → IfErr result (λ fault. (cause : OpenCause) → fault.cause ≡ KeepingFault.Open cause
         → Answers cause (D.content first) (D.content second)) }
-    ensures only { IfErr result (λ fault. ((cause : OpenCause)
-        × (fault.cause ≡ KeepingFault.Open cause))
-        ⊎ (fault.cause ≡ KeepingFault.Unsound) ⊎ (fault.cause ≡ KeepingFault.Memory)) }
-
-    ensures unsound { IsTrue (D.keeps first) → IsTrue (D.keeps second)
+    ensures only { IfErr result (λ fault. RefusesFiles fault.cause) }
+    ensures unsound { KeepModel D.Disk first second
         → IfErr result (λ fault. fault.cause ≡ KeepingFault.Unsound → (bytes : List ℕ)
         × Hold bytes (D.content first) (D.content second)
         × ((k : Kept) → IsKept k → bytes ≢ state_bytes k)) }
-
-    // Whatever it answers, a crash at any moment leaves what was there.
-    ensures reads { IsTrue (D.keeps first) → IsTrue (D.keeps second)
-        → Relates (OnlyReads D.keeps D.content D.image D.clock D.left) result first second }
+    ensures reads { KeepModel D.Disk first second → IfErr result (AreRead D.Disk first second) }
 {
     ic_kept::laws::one_state_is_held();
     ic_state::laws::each_state_has_its_own_bytes();
     match Keeper::open(alloc, first, second) {
         Ok((keeper, bytes)) => match state_of(alloc, &bytes) {
             Ok(state) => Ok((keeper, state)),
-            Err(cause) => {
-                let (first, second) = keeper.close();
-                Err(ResumeFault {
-                    first,
-                    second,
-                    cause,
-                })
-            }
+            Err(cause) => Err(handed_back(keeper, cause)),
         },
-        Err(fault) => {
-            let OpenFault {
-                first,
-                second,
-                cause,
-            } = fault;
-            Err(ResumeFault {
-                first,
-                second,
-                cause: KeepingFault::Open(cause),
-            })
-        }
+        Err(fault) => Err(unopened(fault)),
+    }
+}
+
+/// A fault that hands back the disks of a keeper.
+pub(crate) fn handed_back<D: Disk>(keeper: Keeper<D>, cause: KeepingFault) -> ResumeFault<D>
+    ensures back { HandsBack keeper result }
+    ensures cause { result.cause ≡ cause }
+{
+    let (first, second) = keeper.close();
+    ResumeFault {
+        first,
+        second,
+        cause,
+    }
+}
+
+/// A fault that hands back two disks on which no state was found.
+fn unopened<D: Disk>(fault: OpenFault<D>) -> ResumeFault<D>
+    ensures first { result.first ≡ fault.first }
+    ensures second { result.second ≡ fault.second }
+    ensures cause { result.cause ≡ KeepingFault.Open fault.cause }
+{
+    let OpenFault {
+        first,
+        second,
+        cause,
+    } = fault;
+    ResumeFault {
+        first,
+        second,
+        cause: KeepingFault::Open(cause),
     }
 }
 

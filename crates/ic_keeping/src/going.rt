@@ -1,29 +1,27 @@
 //! A reduction that goes on from a state, and is kept after each piece that has gone further.
 
-ghost use Rattle.std.specs.Prelude.{◌≡◌, ◌≢◌, ◌⊎◌, ◌↔◌, ◌<◌, ◌+◌, ◌*◌, ◌^◌, ◌≤◌, List, ℕ, [], Ok, Err, IfOk, IfErr, IsErr, IsNone, IsTrue, OnOk, OnErr, length, max, slice_index_or, true, false, if◌then◌else◌};
+ghost use Rattle.std.specs.Prelude.{◌≡◌, ◌≢◌, ◌⊎◌, ◌↔◌, ◌<◌, ◌+◌, ◌-◌, ◌^◌, ◌≤◌, ℕ, [], Ok, Err, IfOk, IfErr, IsNone, OnOk, OnErr, length, max, slice_index_or, true, false, if◌then◌else◌};
 ghost use Rattle.std.specs.Arc.{arc_value};
 ghost use Rattle.ic_rules.specs.System.{SystemParts};
-ghost use Rattle.std.specs.List.{AllByRecursion, list_all};
+ghost use Rattle.std.specs.List.{AllByRecursion};
 ghost use Rattle.std.specs.Option.{option_map};
 ghost use Rattle.ic_streams.specs.Stuck.{stuck_text};
 ghost use Rattle.ic_flat.specs.Flat.{configuration_of};
-ghost use Rattle.ic_flat.specs.Words.{forest, is_word_over, IsWhole};
 ghost use Rattle.ic_frames.specs.declared.faults.KeepFault.{KeepFault};
-ghost use Rattle.ic_frames.specs.declared.faults.OpenCause.{OpenCause};
 ghost use Rattle.ic_in_place.specs.declared.running.Bounds.{Bounds};
 ghost use Rattle.ic_in_place.specs.Reductions.{is_written};
-ghost use Rattle.ic_kept.specs.Course.{IsKeep, Way};
-ghost use Rattle.ic_kept.specs.Keeper.{is_broken, Keeps, KeepsModel};
+ghost use Rattle.ic_kept.specs.Course.{IsKeep};
+ghost use Rattle.ic_kept.specs.Keeper.{is_broken};
 ghost use Rattle.ic_state.specs.State.{IsKept, Kept, kept_by, state_bytes};
 ghost use Rattle.ic_state.specs.Words.{IsKeptWord};
 ghost use Rattle.ic_streams.specs.Streams.{line_of};
 ghost use Rattle.ic_term.specs.declared.limits.TheConstants.{MAX_WIDE_NODES};
 ghost use Rattle.ic_text.specs.SystemText.{ReadsSystemWithin};
-ghost use Rattle.ic_keeping.specs.inner.Pieces.{ComesTogether, IsWritten};
-ghost use Rattle.ic_keeping.specs.Life.{IsTold, KeepFails, StopsARun};
-ghost use Rattle.ic_keeping.specs.Way.{AreRulesOf, AreSums, ComesPastLimits, GoesFurther, IsAnswer, IsAsFar, IsKeptAfter, IsReachedFrom, IsSound, IsStateOf};
+ghost use Rattle.ic_keeping.specs.inner.Pieces.{ComesTogether, EndsOnWay, IsOfAPiece, IsPiece, IsPrinted, IsWritten, StopsAPiece, StopsOnWay};
+ghost use Rattle.ic_keeping.specs.Life.{GoesOn, HasAsFar, HasRun, HasState, IsStartOf, IsTold, KeepFails, KeepsOn, StopsARun, StopsFrom, TellsOfKeeper};
+ghost use Rattle.ic_keeping.specs.Way.{AreSums, GoesFurther, IsAnswer, IsReachedFrom, IsStateOf};
 
-use crate::beginning::bytes_of;
+use crate::beginning::{ResumeFault, Start, bytes_of, handed_back};
 use crate::counts::{add_all, are_counts};
 use crate::fault::KeepingFault;
 use crate::pace::{Pace, Timed, millis_of};
@@ -73,10 +71,6 @@ fn rules_of(alloc: Global, text: &[u8]) -> Result<Arc<RuleSet>, KeepingFault>
         × ReadsSystemWithin Limits.Wide text.now (Ok s)) }
     ensures refused { (s : SystemParts) → ReadsSystemWithin Limits.Wide text.now (Ok s)
         → IfErr result (λ fault. fault ≡ KeepingFault.Memory) }
-    ensures unkept { IfErr result (λ fault. (cause : KeepFault)
-        → fault ≢ KeepingFault.Keep cause) }
-    ensures unopened { IfErr result (λ fault. (cause : OpenCause)
-        → fault ≢ KeepingFault.Open cause) }
     ensures only { IfErr result (λ fault. (fault ≡ KeepingFault.Unsound)
         ⊎ (fault ≡ KeepingFault.Memory)) }
 {
@@ -97,10 +91,6 @@ pub(crate) fn rules_for(alloc: Global, state: &State) -> Result<Arc<RuleSet>, Ke
         × (length state.now.by_rule.items ≡ length s.rules.rules)) }
     ensures refused { (s : SystemParts) → IsStateOf s (kept_by state.now)
         → IfErr result (λ fault. fault ≡ KeepingFault.Memory) }
-    ensures unkept { IfErr result (λ fault. (cause : KeepFault)
-        → fault ≢ KeepingFault.Keep cause) }
-    ensures unopened { IfErr result (λ fault. (cause : OpenCause)
-        → fault ≢ KeepingFault.Open cause) }
     ensures only { IfErr result (λ fault. (fault ≡ KeepingFault.Unsound)
         ⊎ (fault ≡ KeepingFault.Memory)) }
 {
@@ -114,8 +104,6 @@ pub(crate) fn rules_for(alloc: Global, state: &State) -> Result<Arc<RuleSet>, Ke
 /// Why a text that was kept isn't read.
 fn unread(fault: TextFault) -> KeepingFault
     ensures memory { (result ≡ KeepingFault.Memory) ⊎ (fault ≢ TextFault.Memory) }
-    ensures unkept { (cause : KeepFault) → result ≢ KeepingFault.Keep cause }
-    ensures unopened { (cause : OpenCause) → result ≢ KeepingFault.Open cause }
     ensures only { (result ≡ KeepingFault.Unsound) ⊎ (result ≡ KeepingFault.Memory) }
 {
     match fault {
@@ -136,86 +124,6 @@ struct Piece {
     equations: usize,
     // For how many milliseconds it made interactions.
     millis: u64,
-}
-
-/// Reduces what a state says by several threads, by so many interactions at most, and puts it together. It tells why no more
-/// were made, and how many names and agents there were.
-fn run_piece<T: Threads + Sync, C: Clock + Sync, V: Watch>(
-    threads: &T,
-    clock: &C,
-    alloc: Global,
-    rules: &Arc<RuleSet>,
-    state: &mut State,
-    policy: Policy,
-    bounds: Bounds,
-    watch: &V,
-) -> Result<Piece, KeepingFault>
-    ensures further { (s : SystemParts) (first : Kept) → IsSound s → arc_value rules.now ≡ s.rules
-        → IsReachedFrom s first (kept_by state.old)
-        → OnOk result (IsReachedFrom s first (kept_by state.new)) }
-    ensures answer { (s : SystemParts) (most : Bounds) → IsSound s → arc_value rules.now ≡ s.rules
-        → IsStateOf s (kept_by state.old)
-        → state.old.interactions + bounds.steps ≤ max most.steps state.old.interactions
-        → IfOk result (λ piece. (piece.end ≡ End.Steps → most.steps ≤ state.new.interactions)
-        → IsAnswer s most piece.end (kept_by state.new)) }
-    ensures stays { OnOk result (state.old.interactions ≡ state.new.interactions
-        → state.new.by_rule.items ≡ state.old.by_rule.items) }
-    ensures ended { IfOk result (λ piece.
-        (state.new.ended ≡ true) ↔ (piece.end ≡ End.Quiet)) }
-    ensures later { OnOk result (state.old.interactions ≤ state.new.interactions) }
-    ensures within { OnOk result
-        (state.new.interactions ≤ state.old.interactions + bounds.steps) }
-    ensures steps { IfOk result (λ piece. piece.end ≡ End.Steps
-        → state.old.interactions + bounds.steps ≤ state.new.interactions) }
-    ensures millis { OnOk result (state.old.millis ≤ state.new.millis) }
-    ensures whole { OnOk result (IsWhole state.new.words.items) }
-    ensures over { OnOk result (IsTrue (list_all (is_word_over (arc_value rules.now).symbols)
-        state.new.words.items)) }
-    ensures counted { IfOk result (λ piece. length (forest state.new.words.items)
-        ≡ state.new.terms + 2 * piece.equations) }
-    ensures refused { (s : SystemParts) → IsSound s → arc_value rules.now ≡ s.rules
-        → IsStateOf s (kept_by state.old)
-        → IfErr result (λ fault. (fault ≡ KeepingFault.Memory) ⊎ (fault ≡ KeepingFault.Limit)) }
-    ensures limit { (s : SystemParts) (first : Kept) → IsSound s → arc_value rules.now ≡ s.rules
-        → IsReachedFrom s first (kept_by state.old)
-        → IfErr result (λ fault. fault ≡ KeepingFault.Limit
-        → (MAX_WIDE_NODES < length state.old.words.items) ⊎ ComesPastLimits s first) }
-    ensures together { (s : SystemParts) (first : Kept) → IsSound s → arc_value rules.now ≡ s.rules
-        → IsReachedFrom s first (kept_by state.old)
-        → OnOk result (ComesTogether s first (kept_by state.new)) }
-    // Each word has a number, where there aren't too many.
-    ensures numbered { OnOk result (length state.new.words.items ≤ MAX_WIDE_NODES
-        → AllByRecursion IsKeptWord state.new.words.items) }
-    // What a piece has reached is never unsound at the next one.
-    ensures written { OnOk result (IsWritten (arc_value rules.now).symbols
-        state.new.words.items state.new.terms) }
-    ensures sound { IsWritten (arc_value rules.now).symbols state.old.words.items state.old.terms
-        → IfErr result (λ fault. fault ≢ KeepingFault.Unsound) }
-    ensures unkept { IfErr result (λ fault. (cause : KeepFault)
-        → fault ≢ KeepingFault.Keep cause) }
-    ensures unopened { IfErr result (λ fault. (cause : OpenCause)
-        → fault ≢ KeepingFault.Open cause) }
-{
-    ic_in_place::laws::a_renumbered_net_is_the_same_net();
-    ic_reaching::laws::a_name_step_leads_to_one_net();
-    ic_reaching::laws::what_is_reached_is_one_net();
-    ic_reaching::laws::what_is_reached_goes_on();
-    ic_reaching::laws::free_names_stay();
-    ic_term::laws::next_is_one_above_the_greatest_name();
-    ic_confluence::laws::same_nets_take_the_same_steps();
-    ic_round::laws::quiet_is_no_step();
-    ic_naming::laws::names_are_told_apart();
-    ic_naming::laws::renamed_words_write_renamed_terms();
-    ic_naming::laws::renumbered_words_write_the_renumbered_configuration();
-    let begun = millis_of(clock);
-    let words = replace(&mut state.words, Vec::new(alloc));
-    let system = system_of(alloc, rules, words, state.terms)?;
-    systems_are_sound(&system);
-    let timed = Timed::new(clock, watch, state.interactions);
-    let reduced = reduce_by_workers(threads, clock, alloc, &system, policy, bounds, &timed)?;
-    let all = millis_of(clock).saturating_sub(begun);
-    let piece = take_in(state, reduced, all, timed.millis())?;
-    Ok(piece)
 }
 
 /// Puts into a state what was reduced, in so many milliseconds in all and so many in which interactions were made.
@@ -378,10 +286,7 @@ fn line_of(
     run: Piece,
     asked: Asked,
 ) -> Result<Vec<u8>, KeepingFault>
-    requires whole { IsWhole state.now.words.items }
-    requires over { IsTrue (list_all (is_word_over symbols.now) state.now.words.items) }
-    requires counted { length (forest state.now.words.items)
-        ≡ state.now.terms + 2 * run.equations }
+    requires { IsPrinted symbols.now state.now run.equations }
     ensures line { IfOk result (λ line. line.items ≡ if is_written asked run.end
         then line_of symbols.now (configuration_of state.now.words.items state.now.terms 0)
         else []) }
@@ -410,10 +315,7 @@ fn stuck_of(
     state: &State,
     run: Piece,
 ) -> Result<Option<Vec<u8>>, KeepingFault>
-    requires whole { IsWhole state.now.words.items }
-    requires over { IsTrue (list_all (is_word_over symbols.now) state.now.words.items) }
-    requires counted { length (forest state.now.words.items)
-        ≡ state.now.terms + 2 * run.equations }
+    requires { IsPrinted symbols.now state.now run.equations }
     ensures stuck { run.end ≡ End.Quiet
         → IfOk result (λ stuck. option_map (λ text. text.items) stuck
         ≡ stuck_text symbols.now (configuration_of state.now.words.items state.now.terms 0)) }
@@ -437,9 +339,7 @@ fn circle_of(
     state: &State,
     run: Piece,
 ) -> Result<Option<Vec<u8>>, KeepingFault>
-    requires whole { IsWhole state.now.words.items }
-    requires counted { length (forest state.now.words.items)
-        ≡ state.now.terms + 2 * run.equations }
+    requires { IsPrinted symbols.now state.now run.equations }
     ensures refused { IfErr result (λ fault. fault ≡ KeepingFault.Memory) }
 {
     match run.end {
@@ -452,141 +352,187 @@ fn circle_of(
     }
 }
 
-/// What is told of a state: its line, where that is asked for, the pair that is stuck and the circle.
-#[derive(Drop)]
-struct Told {
-    line: Vec<u8>,
-    stuck: Option<Vec<u8>>,
-    circle: Option<Vec<u8>>,
-}
-
-/// What is told of a state in which a piece has ended.
-fn tell(
+/// What is told of a run that has ended in a state with a piece, of these interactions before one machine had all.
+fn end_of(
     alloc: Global,
-    symbols: &Symbols,
-    state: &State,
+    rules: Arc<RuleSet>,
+    state: State,
     run: Piece,
+    shared: u64,
     asked: Asked,
-) -> Result<Told, KeepingFault>
-    requires whole { IsWhole state.now.words.items }
-    requires over { IsTrue (list_all (is_word_over symbols.now) state.now.words.items) }
-    requires counted { length (forest state.now.words.items)
-        ≡ state.now.terms + 2 * run.equations }
-    ensures line { IfOk result (λ told. told.line.items ≡ if is_written asked run.end
-        then line_of symbols.now (configuration_of state.now.words.items state.now.terms 0)
-        else []) }
-    ensures stuck { run.end ≡ End.Quiet
-        → IfOk result (λ told. option_map (λ text. text.items) told.stuck
-        ≡ stuck_text symbols.now (configuration_of state.now.words.items state.now.terms 0)) }
-    ensures unstuck { run.end ≢ End.Quiet → IfOk result (λ told. IsNone told.stuck) }
+) -> Result<Ended, KeepingFault>
+    requires { IsPrinted (arc_value rules).symbols state run.equations }
+    ensures state { IfOk result (λ ended. ended.state ≡ state) }
+    ensures end { IfOk result (λ ended. ended.end ≡ run.end) }
+    ensures told { (s : SystemParts) → arc_value rules ≡ s.rules → IfOk result (IsTold s asked) }
+    ensures unstuck { IfOk result (λ ended. ended.end ≢ End.Quiet → IsNone ended.stuck) }
     ensures refused { IfErr result (λ fault. fault ≡ KeepingFault.Memory) }
 {
-    let line = line_of(alloc, symbols, state, run, asked)?;
-    let stuck = stuck_of(alloc, symbols, state, run)?;
-    let circle = circle_of(alloc, symbols, state, run)?;
-    Ok(Told {
+    let symbols = rules.symbols();
+    let line = line_of(alloc, symbols, &state, run, asked)?;
+    let stuck = stuck_of(alloc, symbols, &state, run)?;
+    let circle = circle_of(alloc, symbols, &state, run)?;
+    Ok(Ended {
+        end: run.end,
+        nodes: run.nodes,
+        left: run.left,
+        shared,
+        rules,
+        state,
         line,
         stuck,
         circle,
     })
 }
 
-/// Goes on with a reduction from a state, in pieces, until it ends. Several threads make a piece. It keeps what each piece has
-/// reached, if that goes further than what was kept last. The rules are those of its text.
-pub fn go_on<D: Disk, T: Threads + Sync, C: Clock + Sync, V: Watch>(
-    threads: &T,
-    clock: &C,
-    alloc: Global,
-    rules: Arc<RuleSet>,
-    state: State,
-    keeper: &mut Keeper<D>,
-    policy: Policy,
-    bounds: Bounds,
-    pace: Pace,
-    asked: Asked,
-    watch: &V,
-) -> Result<Ended, KeepingFault>
-    // However often the reduction was stopped before, the answer is one of the system that was read first, and the
-    // interactions are those of all runs.
-    ensures answer { (s : SystemParts) → AreRulesOf s (arc_value rules)
-        → IsStateOf s (kept_by state)
-        → IfOk result (λ ended.
-        IsAnswer s bounds ended.end (kept_by ended.state)) }
-    // It goes on from the state that it is given.
-    ensures from { (s : SystemParts) → AreRulesOf s (arc_value rules)
-        → IsStateOf s (kept_by state)
-        → IfOk result (λ ended. IsReachedFrom s (kept_by state) (kept_by ended.state)) }
-    ensures later { IfOk result (λ ended. state.interactions ≤ ended.state.interactions) }
-    ensures within { IfOk result (λ ended.
-        ended.state.interactions ≤ max bounds.steps state.interactions) }
-    ensures millis { IfOk result (λ ended. state.millis ≤ ended.state.millis) }
-    // What was reached is told to have ended exactly at a quiet end.
-    ensures ended { IfOk result (λ ended. (ended.state.ended ≡ true) ↔ (ended.end ≡ End.Quiet)) }
-    ensures told { (s : SystemParts) → AreRulesOf s (arc_value rules)
-        → IsStateOf s (kept_by state)
-        → IfOk result (λ ended. IsTold s asked ended) }
-    ensures unstuck { IfOk result (λ ended. ended.end ≢ End.Quiet → IsNone ended.stuck) }
-    // At Ok a state is kept that goes as far, and from which the answer is reached.
-    ensures kept { (s : SystemParts) → AreRulesOf s (arc_value rules)
-        → IsStateOf s (kept_by state) → IsKept (kept_by state)
-        → KeepsModel D.keeps keeper.old → Keeps D.image (state_bytes (kept_by state)) keeper.old
-        → IfOk result (λ ended. (k : Kept) × IsKept k
-        × IsReachedFrom s k (kept_by ended.state) × IsAsFar k (kept_by ended.state)
-        × KeepsModel D.keeps keeper.new × Keeps D.image (state_bytes k) keeper.new) }
-    // It keeps states of this reduction, each of which goes further than the one before it, and no others.
-    ensures way { (s : SystemParts) → AreRulesOf s (arc_value rules)
-        → IsStateOf s (kept_by state) → IsKept (kept_by state)
-        → Way D.keeps D.image D.clock D.left (IsKeptAfter s) (state_bytes (kept_by state))
-        keeper.old keeper.new }
-    // Before anything was kept it may find that the state is none of a reduction, and not after.
-    ensures unsound { IfErr result (λ fault. fault ≡ KeepingFault.Unsound → keeper.new ≡ keeper.old) }
-    // From a state of a reduction it fails only where memory runs out, at a limit, or where a keep is refused: a disk has
-    // failed, or there were as many keeps as are counted.
-    ensures refused { (s : SystemParts) → AreRulesOf s (arc_value rules)
-        → IsStateOf s (kept_by state)
-        → IfErr result (λ fault. StopsARun fault) }
-    ensures failed { IfErr result (λ fault. (cause : KeepFault)
-        → fault ≡ KeepingFault.Keep cause → KeepFails cause keeper.old keeper.new) }
-    // At a limit a net is reached from that state which is past one. So a state that is past none isn't refused as it is.
-    ensures limit { (s : SystemParts) → AreRulesOf s (arc_value rules)
-        → IsStateOf s (kept_by state)
-        → IfErr result (λ fault. fault ≡ KeepingFault.Limit → ComesPastLimits s (kept_by state)) }
-    ensures unopened { IfErr result (λ fault. (cause : OpenCause)
-        → fault ≢ KeepingFault.Open cause) }
-{
-    states_are_reached();
-    let mut state = state;
-    let mut pace = pace;
-    let mut kept_ended = state.ended;
-    let mut shared: u64 = 0;
-    for pieces in 0..u64::MAX {
-        let left = bounds.steps.saturating_sub(state.interactions);
-        let piece = Bounds {
-            steps: pace.piece.max(1).min(left),
-            nodes: bounds.nodes,
-        };
-        let before = state.interactions;
-        let run = run_piece(
-            threads, clock, alloc, &rules, &mut state, policy, piece, watch,
+/// With what a reduction runs that is kept, and how far.
+#[derive(Drop)]
+pub struct Run<'a, T, C, V> {
+    pub threads: &'a T,
+    pub clock: &'a C,
+    pub alloc: Global,
+    /// How many threads make a piece, and how they share it.
+    pub policy: Policy,
+    pub bounds: Bounds,
+    /// How often it is kept.
+    pub pace: Pace,
+    pub asked: Asked,
+    pub watch: &'a V,
+}
+
+impl<T: Threads + Sync, C: Clock + Sync, V: Watch> Run<'_, T, C, V> {
+    /// Reduces what a state says by several threads, by so many interactions at most, and puts it together. It tells why no
+    /// more were made, and how many names and agents there were.
+    fn run_piece(
+        &self,
+        rules: &Arc<RuleSet>,
+        state: &mut State,
+        bounds: Bounds,
+    ) -> Result<Piece, KeepingFault>
+        ensures piece { IfOk result (IsPiece (arc_value rules.now).symbols
+            bounds state.old state.new) }
+        ensures further { (s : SystemParts) (first : Kept) → arc_value rules.now ≡ s.rules
+            → IsReachedFrom s first (kept_by state.old)
+            → OnOk result (IsReachedFrom s first (kept_by state.new)
+            × ComesTogether s first (kept_by state.new)) }
+        ensures answer { (s : SystemParts) (most : Bounds) → arc_value rules.now ≡ s.rules
+            → IsStateOf s (kept_by state.old)
+            → state.old.interactions + bounds.steps ≤ max most.steps state.old.interactions
+            → IfOk result (λ piece. (piece.end ≡ End.Steps → most.steps ≤ state.new.interactions)
+            → IsAnswer s most piece.end (kept_by state.new)) }
+        ensures refused { (s : SystemParts) (first : Kept) → arc_value rules.now ≡ s.rules
+            → IsReachedFrom s first (kept_by state.old)
+            → IfErr result (StopsAPiece s first state.old) }
+        ensures only { IfErr result IsOfAPiece }
+        // What a piece has reached is never unsound at the next one.
+        ensures sound { IsWritten (arc_value rules.now).symbols
+            state.old.words.items state.old.terms
+            → IfErr result (λ fault. fault ≢ KeepingFault.Unsound) }
+    {
+        ic_in_place::laws::a_renumbered_net_is_the_same_net();
+        ic_reaching::laws::a_name_step_leads_to_one_net();
+        ic_reaching::laws::what_is_reached_is_one_net();
+        ic_reaching::laws::what_is_reached_goes_on();
+        ic_reaching::laws::free_names_stay();
+        ic_term::laws::next_is_one_above_the_greatest_name();
+        ic_confluence::laws::same_nets_take_the_same_steps();
+        ic_round::laws::quiet_is_no_step();
+        ic_naming::laws::names_are_told_apart();
+        ic_naming::laws::renamed_words_write_renamed_terms();
+        ic_naming::laws::renumbered_words_write_the_renumbered_configuration();
+        let begun = millis_of(self.clock);
+        let words = replace(&mut state.words, Vec::new(self.alloc));
+        let system = system_of(self.alloc, rules, words, state.terms)?;
+        systems_are_sound(&system);
+        let timed = Timed::new(self.clock, self.watch, state.interactions);
+        let reduced = reduce_by_workers(
+            self.threads,
+            self.clock,
+            self.alloc,
+            &system,
+            self.policy,
+            bounds,
+            &timed,
         )?;
-        let now_ended = keep_further(alloc, &state, before, kept_ended, keeper)?;
-        shared = shared.saturating_add(run.shared);
-        if ends_run(run.end, state.interactions, bounds.steps) {
-            let told = tell(alloc, rules.symbols(), &state, run, asked)?;
-            return Ok(Ended {
-                end: run.end,
-                nodes: run.nodes,
-                left: run.left,
-                shared,
-                rules,
-                state,
-                line: told.line,
-                stuck: told.stuck,
-                circle: told.circle,
-            });
-        }
-        kept_ended = now_ended;
-        pace = pace.after(run.millis);
+        let all = millis_of(self.clock).saturating_sub(begun);
+        let piece = take_in(state, reduced, all, timed.millis())?;
+        Ok(piece)
     }
-    Err(KeepingFault::Limit)
+
+    /// The bounds of the next piece: as many interactions as it should make, but no more than are left.
+    fn bounds_after(&self, interactions: u64, pace: Pace) -> Bounds
+        ensures left { result.steps ≤ self.now.bounds.steps - interactions }
+        ensures some { interactions < self.now.bounds.steps → 1 ≤ result.steps }
+    {
+        let left = self.bounds.steps.saturating_sub(interactions);
+        Bounds {
+            steps: pace.piece.max(1).min(left),
+            nodes: self.bounds.nodes,
+        }
+    }
+
+    /// Goes on with a reduction from a state, in pieces, until it ends. Several threads make a piece. It keeps what each piece
+    /// has reached, if that goes further than what was kept last.
+    pub fn go_on<D: Disk>(
+        &self,
+        start: Start,
+        keeper: &mut Keeper<D>,
+    ) -> Result<Ended, KeepingFault>
+        // However often the reduction was stopped before, the answer is one of the system that was read first, and the
+        // interactions are those of all runs.
+        ensures answer { (s : SystemParts) → IsStartOf s start
+            → IfOk result (HasRun s self.now.bounds self.now.asked (kept_by start.state)) }
+        ensures on { IfOk result (GoesOn self.now.bounds (kept_by start.state)) }
+        // At Ok a state is kept that goes as far, and from which the answer is reached.
+        ensures kept { (s : SystemParts) → IsStartOf s start → IsKept (kept_by start.state)
+            → HasState D.Disk (kept_by start.state) keeper.old
+            → IfOk result (λ run. HasAsFar D.Disk s (kept_by run.state) keeper.new) }
+        // It keeps states of this reduction, each of which goes further than the one before it, and no others.
+        ensures way { (s : SystemParts) → IsStartOf s start → IsKept (kept_by start.state)
+            → KeepsOn D.Disk s (kept_by start.state) keeper.old keeper.new }
+        // From a state of a reduction it fails only where memory runs out, at a limit, or where a keep is refused: a disk has
+        // failed, or there were as many keeps as are counted. A state that is past no limit isn't refused as it is.
+        ensures refused { (s : SystemParts) → IsStartOf s start
+            → IfErr result (StopsFrom s (kept_by start.state)) }
+        ensures tells { IfErr result (TellsOfKeeper keeper.old keeper.new) }
+    {
+        states_are_reached();
+        let Start { state, rules } = start;
+        let mut state = state;
+        let mut pace = self.pace;
+        let mut kept_ended = state.ended;
+        let mut shared: u64 = 0;
+        for pieces in 0..u64::MAX {
+            let before = state.interactions;
+            let bounds = self.bounds_after(before, pace);
+            let run = self.run_piece(&rules, &mut state, bounds)?;
+            let now_ended = keep_further(self.alloc, &state, before, kept_ended, keeper)?;
+            shared = shared.saturating_add(run.shared);
+            if ends_run(run.end, state.interactions, self.bounds.steps) {
+                let ended = end_of(self.alloc, rules, state, run, shared, self.asked)?;
+                return Ok(ended);
+            }
+            kept_ended = now_ended;
+            pace = pace.after(run.millis);
+        }
+        Err(KeepingFault::Limit)
+    }
+
+    /// Goes on with a reduction until it ends. A fault hands back the disks of its keeper.
+    pub(crate) fn live_on<D: Disk>(
+        &self,
+        start: Start,
+        keeper: Keeper<D>,
+    ) -> Result<(Ended, Keeper<D>), ResumeFault<D>>
+        ensures ended { IfOk result (λ lived.
+            EndsOnWay D.Disk self.now.bounds self.now.asked start keeper lived.0 lived.1) }
+        ensures stopped { IfErr result (λ fault. (new : Keeper D)
+            × StopsOnWay D.Disk start keeper new fault) }
+    {
+        let mut keeper = keeper;
+        match self.go_on(start, &mut keeper) {
+            Ok(ended) => Ok((ended, keeper)),
+            Err(cause) => Err(handed_back(keeper, cause)),
+        }
+    }
 }

@@ -4,7 +4,6 @@ ghost use Rattle.std.specs.Prelude.{◌≡◌, ◌≢◌, ◌⊎◌, ◌+◌, �
 ghost use Rattle.std.specs.Arc.{arc_value};
 ghost use Rattle.std.specs.Option.{option_map};
 ghost use Rattle.ic_disk.specs.Images.{Within};
-ghost use Rattle.ic_disk.specs.Time.{LeftSince};
 ghost use Rattle.ic_term.specs.Configuration.{Configuration, configuration_nodes};
 ghost use Rattle.ic_term.specs.Symbol.{is_over};
 ghost use Rattle.ic_term.specs.declared.limits.TheConstants.{MAX_WIDE_NODES};
@@ -30,12 +29,12 @@ ghost use Rattle.ic_in_place.specs.declared.stream.Asked.{Asked};
 ghost use Rattle.ic_in_place.specs.Reductions.{is_written, line_reached};
 ghost use Rattle.ic_in_place.specs.Counting.{AreCounts};
 ghost use Rattle.ic_in_place.specs.Reducing.{CanInteract, IsPutTogether};
-ghost use Rattle.ic_kept.specs.Course.{HoldOne, HoldOneOf, LeftOnWay, Way};
+ghost use Rattle.ic_kept.specs.Course.{HoldOne, HoldOneOf, LeftOnWay};
 ghost use Rattle.ic_kept.specs.Held.{Hold};
 ghost use Rattle.ic_kept.specs.Keeper.{is_broken, Keeps, KeepsModel, newest_of, number_of, other_of};
 ghost use Rattle.ic_kept.specs.Keeping.{CrashInKeeping};
-ghost use Rattle.ic_kept.specs.Lives.{IsFound, Lives};
-ghost use Rattle.ic_kept.specs.Opening.{InSomeOrder, OnlyReads};
+ghost use Rattle.ic_kept.specs.Lives.{Lives};
+ghost use Rattle.ic_kept.specs.Opening.{InSomeOrder};
 ghost use Rattle.ic_kept.specs.Sheet.{IsNewest, IsShut};
 ghost use Rattle.ic_rules.specs.System.{SystemParts};
 ghost use Rattle.ic_state.specs.State.{Kept, IsKept, state_bytes};
@@ -44,26 +43,23 @@ ghost use Rattle.ic_text.specs.declared.limits.Limits.TheVariants.{Wide};
 ghost use Rattle.ic_text.specs.declared.limits.TheConstants.{MAX_NAME};
 ghost use Rattle.ic_keeping.specs.declared.fault.KeepingFault.TheVariants as keeping;
 ghost use Rattle.ic_keeping.specs.declared.going.Ended.{Ended};
-ghost use Rattle.ic_keeping.specs.Life.{HasLived, IsFirstLife, IsLife, IsTold, KeepFails, StopsABegin, StopsARun, StopsAnOpening};
+ghost use Rattle.ic_keeping.specs.Life.{HasAsFar, HasEnded, HasLived, HasState, HoldAState, IsFirstLife, IsFoundAgain, IsLeftBy, IsLife, IsTold, KeepFails, KeepModel, KeepsOn, StopsABegin, StopsARun, StopsAnOpening, StopsAt};
 ghost use Rattle.ic_keeping.specs.Way.{AreSums, ComesPastLimits, IsAnswer, IsAsFar, IsBegun, IsFormFrom, IsFormOf, IsKeptAfter, IsOnWay, IsReachedFrom, IsStateOf};
 
+use crate::beginning::ResumeFault;
 use ic_disk::Disk;
 use ic_kept::Keeper;
 
 /// Stopped at any moment, inside a write or between two, a reduction leaves the state that was kept last, or the one that was
 /// coming, which goes further. Both are states of this reduction.
 pub fn a_stop_leaves_the_last_state_or_the_next<D: Disk>(keeper: &Keeper<D>)
-    ensures held { (s : SystemParts) (first : Kept) (end : Keeper D) → KeepsModel D.keeps keeper.now
-        → Keeps D.image (state_bytes first) keeper.now
-        → (way : Way D.keeps D.image D.clock D.left (IsKeptAfter s) (state_bytes first)
-        keeper.now end)
+    ensures held { (s : SystemParts) (first : Kept) (end : Keeper D)
+        → HasState D.Disk first keeper.now → (way : KeepsOn D.Disk s first keeper.now end)
         → (kept coming one other : List ℕ)
         → LeftOnWay D.keeps D.image D.clock D.left way kept coming one other
         → HoldOneOf kept coming one other }
     ensures states { (s : SystemParts) (first : Kept) (end : Keeper D) → IsKept first
-        → IsStateOf s first
-        → (way : Way D.keeps D.image D.clock D.left (IsKeptAfter s) (state_bytes first)
-        keeper.now end)
+        → IsStateOf s first → (way : KeepsOn D.Disk s first keeper.now end)
         → (kept coming one other : List ℕ)
         → LeftOnWay D.keeps D.image D.clock D.left way kept coming one other
         → IsFormFrom s first.interactions kept
@@ -106,56 +102,54 @@ pub fn any_lives_leave_a_state_of_the_reduction<D: Disk>(first: &D, second: &D)
 pub fn lives_go_on<D: Disk>(first: &D, second: &D)
     // The first file has the state with which it begins, with the number 1, and the second is shut.
     ensures begun { (s : SystemParts) (begun : Kept) → IsKept begun → IsStateOf s begun
-        → IsTrue (D.keeps first.now) → IsTrue (D.keeps second.now)
+        → KeepModel D.Disk first.now second.now
         → Within (D.image first.now) (IsNewest 1 (state_bytes begun))
-        → Within (D.image second.now) IsShut
-        → HasLived D.keeps D.content D.image D.clock D.left s begun
+        → Within (D.image second.now) IsShut → HasLived D.Disk s begun
         (state_bytes begun) (state_bytes begun) first.now second.now }
-    // The disks were only read, and each of the two that are found has an image that was left since then.
-    ensures opening { (s : SystemParts) (begun : Kept) (kept coming : List ℕ)
-        (one_then other_then one_now other_now : D)
-        → HasLived D.keeps D.content D.image D.clock D.left s begun kept coming first.now second.now
-        → OnlyReads D.keeps D.content D.image D.clock D.left first.now one_then
-        → OnlyReads D.keeps D.content D.image D.clock D.left second.now other_then
-        → IsTrue (D.keeps one_now) → IsTrue (D.keeps other_now)
-        → Within (D.image one_now) (LeftSince (D.left one_then) (D.clock first.now))
-        → Within (D.image other_now) (LeftSince (D.left other_then) (D.clock second.now))
-        → HasLived D.keeps D.content D.image D.clock D.left s begun kept coming one_now other_now }
-    // So it is in whichever order an opening has handed them out, or back.
-    ensures opened { (s : SystemParts) (begun : Kept) (kept coming : List ℕ) (one_now other_now : D)
-        → HasLived D.keeps D.content D.image D.clock D.left s begun kept coming first.now second.now
-        → InSomeOrder (λ old now. (read : D)
-        × OnlyReads D.keeps D.content D.image D.clock D.left old read
-        × IsFound D.keeps D.content D.image D.clock D.left old read now)
-        first.now second.now one_now other_now
-        → HasLived D.keeps D.content D.image D.clock D.left s begun kept coming one_now other_now }
+    // The disks were only read, and are found again in whichever order an opening has handed them out, or back.
+    ensures opened { (s : SystemParts) (begun : Kept) (kept coming : List ℕ) (one other : D)
+        → HasLived D.Disk s begun kept coming first.now second.now
+        → InSomeOrder (IsFoundAgain D.Disk) first.now second.now one other
+        → HasLived D.Disk s begun kept coming one other }
     // The images that are found are what a stop on the way of a life has left.
     ensures more { (s : SystemParts) (begun found : Kept) (kept coming last next : List ℕ)
-        (one_now other_now : D) (k n : Keeper D)
-        → HasLived D.keeps D.content D.image D.clock D.left s begun kept coming first.now second.now
-        → (life : IsLife D.keeps D.content D.image D.clock D.left s found
-        first.now second.now k n)
-        → IsTrue (D.keeps one_now) → IsTrue (D.keeps other_now)
-        → ((one other : List ℕ) → D.image one_now one → D.image other_now other
-        → LeftOnWay D.keeps D.image D.clock D.left life.way last next one other)
-        → HasLived D.keeps D.content D.image D.clock D.left s begun last next one_now other_now }
+        (one other : D) (k n : Keeper D)
+        → HasLived D.Disk s begun kept coming first.now second.now
+        → (life : IsLife D.Disk s found first.now second.now k n)
+        → IsLeftBy D.Disk life last next one other → HasLived D.Disk s begun last next one other }
     ensures turned { (s : SystemParts) (begun : Kept) (kept coming : List ℕ)
-        → HasLived D.keeps D.content D.image D.clock D.left s begun kept coming first.now second.now
-        → HasLived D.keeps D.content D.image D.clock D.left s begun kept coming second.now first.now }
-    // So they hold a state of it, with no fewer interactions than it began with, from which `live` goes on.
+        → HasLived D.Disk s begun kept coming first.now second.now
+        → HasLived D.Disk s begun kept coming second.now first.now }
+{
+    let _ = first;
+    let _ = second;
+}
+
+/// After any lives of a reduction two files hold a state of it, from which `live` goes on: another life may follow.
+pub fn another_life_may_follow<D: Disk>(first: &D, second: &D)
     ensures holds { (s : SystemParts) (begun : Kept) (kept coming : List ℕ)
-        → HasLived D.keeps D.content D.image D.clock D.left s begun kept coming first.now second.now
-        → IsTrue (D.keeps first.now) × IsTrue (D.keeps second.now)
-        × HoldOne (IsFormFrom s begun.interactions) (D.content first.now) (D.content second.now) }
-    // At the end of a life, also by a fault, its disks keep the model and hold a state with no fewer interactions than it found:
-    // another life may follow at once.
+        → HasLived D.Disk s begun kept coming first.now second.now
+        → HoldAState D.Disk s begun.interactions first.now second.now }
+    // So it may at once at the end of a life, also by a fault.
     ensures again { (s : SystemParts) (found : Kept) (k n : Keeper D)
-        → IsLife D.keeps D.content D.image D.clock D.left s found first.now second.now k n
-        → KeepsModel D.keeps n × HoldOne (IsFormFrom s found.interactions)
-        (D.content (newest_of n)) (D.content (other_of n)) }
+        → IsLife D.Disk s found first.now second.now k n
+        → HoldAState D.Disk s found.interactions (newest_of n) (other_of n) }
+    ensures ended { (s : SystemParts) (bounds : Bounds) (asked : Asked) (least : ℕ) (run : Ended)
+        (n : Keeper D) → HasEnded D.Disk s bounds asked least first.now second.now run n
+        → HoldAState D.Disk s least (newest_of n) (other_of n)
+        × (least ≤ run.state.interactions) }
+    ensures stopped { (s : SystemParts) (found : Kept) (k n : Keeper D) (fault : ResumeFault D)
+        → IsLife D.Disk s found first.now second.now k n → StopsAt s found k n fault
+        → HoldAState D.Disk s found.interactions fault.first fault.second }
+    ensures stopped_first { (s : SystemParts) (begun : Kept) (n : Keeper D) (fault : ResumeFault D)
+        → (life : IsFirstLife D.Disk s begun n) → StopsAt s begun life.keeper n fault
+        → HoldAState D.Disk s begun.interactions fault.first fault.second }
+    // At its end a state is kept that goes as far.
+    ensures kept { (s : SystemParts) (k : Kept) (n : Keeper D) → HasAsFar D.Disk s k n
+        → (kept : Kept) × IsStateOf s kept × IsAsFar kept k × HasState D.Disk kept n }
     // What was said of the lives of a reduction is said of these.
     ensures lives { (s : SystemParts) (begun : Kept) (kept coming : List ℕ)
-        → HasLived D.keeps D.content D.image D.clock D.left s begun kept coming first.now second.now
+        → HasLived D.Disk s begun kept coming first.now second.now
         → IsKept begun × IsStateOf s begun
         × Lives D.keeps D.content D.image D.clock D.left (IsKeptAfter s) (state_bytes begun)
         kept coming first.now second.now }
@@ -171,22 +165,18 @@ pub fn lives_go_on<D: Disk>(first: &D, second: &D)
 pub fn a_first_life_is_one_of_them<D: Disk>(first: &D, second: &D)
     // Two files were begun so, and opened.
     ensures begun { (s : SystemParts) (begun : Kept) (n : Keeper D)
-        → IsFirstLife D.keeps D.content D.image D.clock D.left s begun n
-        → (one other : D) × (k : Keeper D) × IsTrue (D.keeps one) × IsTrue (D.keeps other)
+        → IsFirstLife D.Disk s begun n
+        → (one other : D) × (k : Keeper D) × KeepModel D.Disk one other
         × Within (D.image one) (IsNewest 1 (state_bytes begun)) × Within (D.image other) IsShut
-        × IsLife D.keeps D.content D.image D.clock D.left s begun one other k n }
+        × IsLife D.Disk s begun one other k n }
     ensures stopped { (s : SystemParts) (begun : Kept) (last next : List ℕ) (n : Keeper D)
-        → (life : IsFirstLife D.keeps D.content D.image D.clock D.left s begun n)
-        → IsTrue (D.keeps first.now) → IsTrue (D.keeps second.now)
-        → ((one other : List ℕ) → D.image first.now one → D.image second.now other
-        → LeftOnWay D.keeps D.image D.clock D.left life.life.way last next one other)
-        → HasLived D.keeps D.content D.image D.clock D.left s begun
-        last next first.now second.now }
+        → (life : IsFirstLife D.Disk s begun n)
+        → IsLeftBy D.Disk life.life last next first.now second.now
+        → HasLived D.Disk s begun last next first.now second.now }
     // At its end, also by a fault, its disks hold a state with no fewer interactions.
     ensures again { (s : SystemParts) (begun : Kept) (n : Keeper D)
-        → IsFirstLife D.keeps D.content D.image D.clock D.left s begun n
-        → KeepsModel D.keeps n × HoldOne (IsFormFrom s begun.interactions)
-        (D.content (newest_of n)) (D.content (other_of n)) }
+        → IsFirstLife D.Disk s begun n
+        → HoldAState D.Disk s begun.interactions (newest_of n) (other_of n) }
 {
     let _ = first;
     let _ = second;
@@ -329,6 +319,8 @@ pub fn kept_states_go_on()
         × (kept.by_rule ≡ k.by_rule) × (k.ended ≡ true → kept.ended ≡ true) }
     ensures of { (s : SystemParts) (least : ℕ) (one other : List ℕ)
         → HoldOne (IsFormFrom s least) one other → HoldOne (IsFormOf s) one other }
+    ensures from { (s : SystemParts) (one other : List ℕ)
+        → HoldOne (IsFormOf s) one other → HoldOne (IsFormFrom s 0) one other }
 {
     ic_state::laws::each_state_has_its_own_bytes();
 }

@@ -1,7 +1,8 @@
 //! A large reduction that is kept now and then, so that it survives a stop at any moment.
 //!
-//! `begun` reads a text as a state with no interactions, which keeps a text with its rules, and `live_anew` keeps it and reduces it in pieces, each of which is
-//! kept. A reduction that was stopped goes on by `live` from the state that was kept last.
+//! `begun` reads a text as a state with no interactions, which keeps a text with its rules. `Run::live_anew` keeps it and
+//! reduces it in pieces, each of which is kept. A reduction that was stopped goes on by `Run::live` from the state that was kept
+//! last.
 #![tactic(auto)]
 
 mod anew;
@@ -15,9 +16,7 @@ mod pace;
 mod systems;
 mod text;
 
-pub use anew::live_anew;
 pub use beginning::{ResumeFault, Start, begin, begun, resume};
 pub use fault::KeepingFault;
-pub use going::{Ended, go_on};
-pub use life::live;
+pub use going::{Ended, Run};
 pub use pace::Pace;

@@ -5,9 +5,8 @@ ghost use Rattle.std.specs.Arc.{arc_value};
 ghost use Rattle.ic_term.specs.Configuration.{configuration_names, configuration_nodes, occurrences, one_above};
 ghost use Rattle.ic_term.specs.Symbol.{AreSymbols, is_over};
 ghost use Rattle.ic_flat.specs.Flat.{configuration_of};
-ghost use Rattle.ic_frames.specs.declared.faults.KeepFault.{KeepFault};
-ghost use Rattle.ic_frames.specs.declared.faults.OpenCause.{OpenCause};
 ghost use Rattle.ic_flat.specs.Words.{forest, IsWhole};
+ghost use Rattle.ic_keeping.specs.inner.Pieces.{IsOfAPiece};
 ghost use Rattle.ic_keeping.specs.Way.{IsReachedFrom, IsSound, IsStateOf};
 ghost use Rattle.ic_round.specs.Naming.{HasNames};
 ghost use Rattle.ic_rules.specs.System.{SystemParts};
@@ -48,10 +47,7 @@ pub(crate) fn system_of(
         → IfErr result (λ fault. fault ≡ KeepingFault.Limit
         → (MAX_WIDE_NODES < configuration_nodes (configuration_of words.items terms 0))
         ⊎ (MAX_NAME + 1 < one_above (configuration_names (configuration_of words.items terms 0)))) }
-    ensures unkept { IfErr result (λ fault. (cause : KeepFault)
-        → fault ≢ KeepingFault.Keep cause) }
-    ensures unopened { IfErr result (λ fault. (cause : OpenCause)
-        → fault ≢ KeepingFault.Open cause) }
+    ensures only { IfErr result IsOfAPiece }
 {
     let config = config_of(alloc, words, terms)?;
     if config.next() > MAX_NAME + 1 {
@@ -79,10 +75,7 @@ fn config_of(alloc: Global, words: Vec<Word>, terms: u64) -> Result<WideFlat, Ke
         → IfErr result (λ fault. fault ≡ KeepingFault.Limit
         → (MAX_WIDE_NODES < configuration_nodes (configuration_of words.items terms 0))
         ⊎ (MAX_NEXT < one_above (configuration_names (configuration_of words.items terms 0)))) }
-    ensures unkept { IfErr result (λ fault. (cause : KeepFault)
-        → fault ≢ KeepingFault.Keep cause) }
-    ensures unopened { IfErr result (λ fault. (cause : OpenCause)
-        → fault ≢ KeepingFault.Open cause) }
+    ensures only { IfErr result IsOfAPiece }
 {
     ic_term::laws::next_is_one_above_the_greatest_name();
     ic_term::laws::wide_ones_are_configurations_but_for_their_limits();

@@ -11,7 +11,7 @@ use ic_disk::Disk;
 use ic_expand::{Opened, Shape, Wording, write_told};
 use ic_exits::Failure;
 use ic_in_place::{Bounds, Outcome};
-use ic_keeping::{Ended, KeepingFault, Pace, Start, begun, live, live_anew};
+use ic_keeping::{Ended, KeepingFault, Pace, Run, Start, begun};
 use ic_kept::Keeper;
 use ic_progress::Watching;
 use ic_streams::{StreamFault, read_text_within};
@@ -129,32 +129,19 @@ fn live_over<D: Disk + Drop, T: Threads + Sync>(
     wanted: Wanted,
 ) -> Result<(Ended, Keeper<D>), Failure> {
     let watching = Watching::new(rt);
+    let run = Run {
+        threads,
+        clock: rt,
+        alloc: rt.alloc(),
+        policy: wanted.policy,
+        bounds,
+        pace,
+        asked: wanted.asked,
+        watch: &watching,
+    };
     let lived = match from {
-        Some(begun) => live_anew(
-            threads,
-            rt,
-            rt.alloc(),
-            begun,
-            first,
-            second,
-            wanted.policy,
-            bounds,
-            pace,
-            wanted.asked,
-            &watching,
-        ),
-        None => live(
-            threads,
-            rt,
-            rt.alloc(),
-            first,
-            second,
-            wanted.policy,
-            bounds,
-            pace,
-            wanted.asked,
-            &watching,
-        ),
+        Some(begun) => run.live_anew(begun, first, second),
+        None => run.live(first, second),
     };
     watching.wipe();
     match lived {

@@ -1,11 +1,10 @@
-use Rattle.std.proofs.Common.{◌≡◌, ◌∙◌, ℕ, ◌+◌, ◌≤◌, List, Ok, length, refl, sym, ap, subst}
+use Rattle.std.proofs.Common.{◌≡◌, ◌∙◌, ℕ, ◌+◌, ◌≤◌, List, length, refl, sym, ap, subst}
 use Rattle.std.proofs.lemmas.Result.{err_from_is_err_and}
 use Rattle.ic_term.specs.Configuration.{Configuration, configuration_names, one_above}
 use Rattle.ic_term.specs.Symbol.{is_over}
 use Rattle.ic_rules.specs.RuleSet.{Rules}
 use Rattle.ic_flat.specs.Flat.{configuration_of}
 use Rattle.ic_flat.specs.lemmas.FlatLaws.{names-configuration_of, over-configuration_of}
-use Rattle.ic_text.specs.SystemText.{ReadsSystemWithin}
 use Rattle.ic_text.specs.declared.limits.Limits.TheVariants.{Wide}
 use Rattle.ic_text.specs.declared.limits.TheConstants.{MAX_NAME}
 use Rattle.ic_keeping.specs.Way.{IsOnWay}
@@ -47,7 +46,7 @@ returns-clause-read c =
         goes_on = refl;
         millis = refl;
       },
-      record { same = c.into_parts-rules.ensures.rules; sound = c.systems_are_sound.ensures.sound },
+      c.into_parts-rules.ensures.rules,
     )
 
 pub returns-in_err-system-clause-refused : goal.returns-in_err-system-clause-refused

@@ -1,4 +1,4 @@
-use Rattle.std.proofs.Common.{◌≡◌, ◌≤◌, length, sym, subst}
+use Rattle.std.proofs.Common.{◌≡◌, ◌≤◌, length, sym, subst, arith}
 use Rattle.ic_state.specs.State.{Kept}
 use Rattle.ic_term.specs.declared.limits.TheConstants.{MAX_WIDE_NODES}
 use Rattle.ic_keeping.specs.Way.{GoesFurther, IsReachedFrom}
@@ -25,3 +25,7 @@ returns-clause-reached c = λ s k next is. (is.was, is.is, is.was.next, is.is.ne
 
 pub returns-clause-as_far : goal.returns-clause-as_far
 returns-clause-as_far c = λ kept k is. (is.interactions, is.by_rule, is.ended)
+
+pub returns-clause-from : goal.returns-clause-from
+returns-clause-from c s one other held =
+    (held.0, (held.1.0, held.1.1, held.1.2, omega arith, held.1.3), held.2)

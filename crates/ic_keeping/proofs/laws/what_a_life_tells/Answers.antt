@@ -1,7 +1,6 @@
 use Rattle.ic_frames.specs.declared.faults.OpenCause.{OpenCause}
 use Rattle.ic_frames.specs.declared.faults.OpenCause.TheVariants as opening
 use Rattle.ic_keeping.specs.declared.fault.KeepingFault.{KeepingFault}
-use Rattle.ic_frames.specs.declared.faults.KeepFault.{KeepFault}
 use Rattle.ic_keeping.specs.Life.{StopsABegin, StopsAnOpening}
 use Rattle.ic_keeping.proofs.Refusing.{run_unopened, run_sound, run_begun, run_no_call}
 use Rattle.ic_keeping.specs.declared.fault.KeepingFault.TheVariants as keeping

@@ -31,3 +31,8 @@ pub returns-in_err-config-clause-limit : goal.returns-in_err-config-clause-limit
 returns-in_err-config-clause-limit c twice =
     let e = err_from_is_err_and c.from_residual.result c.from_residual.ensures.1 in
     rw (e.1, e.2) (λ limit. ⊎_elim (λ many. inl many) (λ high. inr (omega (arith, high))) (c.in_err-config.ensures.limit twice limit))
+
+pub returns-in_err-config-clause-only : goal.returns-in_err-config-clause-only
+returns-in_err-config-clause-only c =
+    let e = err_from_is_err_and c.from_residual.result c.from_residual.ensures.1 in
+    rw (e.1, e.2) c.in_err-config.ensures.only

@@ -1,4 +1,4 @@
-use Rattle.std.proofs.Common.{ℕ, List, Ok, ap, arith, length, subst, sym}
+use Rattle.std.proofs.Common.{ℕ, List, Ok, subst, sym}
 use Rattle.ic_text.specs.SystemText.{ReadsSystemWithin}
 use Rattle.ic_text.specs.declared.limits.Limits.TheVariants.{Wide}
 use Rattle.ic_keeping.proofs.text.kept_text.Goals as goal

@@ -1,0 +1,198 @@
+use Rattle.std.proofs.Common.{◌≡◌, ◌⊎◌, inl, inr, ◌∙◌, ℕ, ◌+◌, ◌*◌, ◌<◌, ◌≤◌, List, length, refl, sym, ap, subst, arith}
+use Rattle.std.proofs.lemmas.Result.{err_from_is_err_and}
+use Rattle.std.specs.Prelude.{◌↔◌, IsTrue, true}
+use Rattle.std.specs.Arc.{arc_value}
+use Rattle.std.specs.List.{AllByRecursion, list_all}
+use Rattle.ic_rules.specs.RuleSet.{Rules}
+use Rattle.ic_term.specs.Configuration.{configuration_names, configuration_nodes, occurrences, one_above}
+use Rattle.ic_term.specs.declared.limits.TheConstants.{MAX_WIDE_NODES}
+use Rattle.ic_text.specs.declared.limits.TheConstants.{MAX_NAME}
+use Rattle.ic_term.specs.Symbol.{is_over}
+use Rattle.ic_flat.specs.declared.word.Word.{Word}
+use Rattle.ic_flat.specs.Flat.{configuration_of}
+use Rattle.ic_flat.specs.Words.{forest, is_word_over, IsWhole}
+use Rattle.ic_flat.specs.lemmas.FlatLaws.{names-configuration_of}
+use Rattle.ic_in_place.specs.declared.running.End.{End}
+use Rattle.ic_in_place.specs.declared.running.End.TheVariants.{Quiet}
+use Rattle.ic_in_place.specs.Reducing.{EndsBy}
+use Rattle.ic_state.specs.State.{kept_by}
+use Rattle.ic_state.specs.Words.{IsKeptWord}
+use Rattle.ic_keeping.specs.inner.Pieces.{IsWritten}
+use Rattle.ic_keeping.specs.Way.{IsAnswer}
+use Rattle.ic_keeping.proofs.Refusing.{not_unsound, piece_without_memory}
+use Rattle.ic_keeping.proofs.LowNames.{TellingLaws, low_words}
+use Rattle.ic_keeping.proofs.Quiet.{QuietLaws}
+use Rattle.ic_keeping.proofs.WayLemmas.{NamingLaws, ReachingLaws, answer_of, as_many_nodes, comes, counts_stay, past_sums, past_words, reached_from, reached_written, words_numbered}
+use Rattle.ic_keeping.proofs.going.Run.run_piece.Goals as goal
+use Rattle.ic_keeping.proofs.going.Run.run_piece.Goals.{In_ok-system}
+
+-- what the laws say that are called first
+naming_here : (g : _) → In_ok-system g → NamingLaws
+naming_here g c = record { next = c.a_name_step_leads_to_one_net.ensures.next; net = c.a_renumbered_net_is_the_same_net.ensures.net }
+
+laws_here : (g : _) → In_ok-system g → ReachingLaws
+laws_here g c = record {
+  names = c.what_is_reached_is_one_net.ensures.names;
+  over = c.what_is_reached_is_one_net.ensures.over;
+  net = c.what_is_reached_is_one_net.ensures.net;
+  reached = c.what_is_reached_goes_on.ensures.reached;
+  free = c.free_names_stay.ensures.reached;
+  above = c.next_is_one_above_the_greatest_name.ensures.above;
+}
+
+telling_here : (g : _) → In_ok-system g → TellingLaws
+telling_here g c = record {
+  words = c.renumbered_words_write_the_renumbered_configuration.ensures.words;
+  names = c.renamed_words_write_renamed_terms.ensures.names;
+  low = c.names_are_told_apart.ensures.low;
+}
+
+quiet_here : (g : _) → In_ok-system g → QuietLaws
+quiet_here g c = record {
+  test = c.quiet_is_no_step.ensures;
+  same = c.same_nets_take_the_same_steps.ensures.quiet;
+  renumbered = c.a_renumbered_net_is_the_same_net.ensures.same;
+}
+
+whole : (words made : List Word) → words ≡ made → IsWhole made → IsWhole words
+whole words made same is = subst (λ (ws : List Word). IsWhole ws) (sym same) is
+
+pub returns-clause-further : goal.returns-clause-further
+returns-clause-further g c s first rules from =
+    let at = (goal.at.returns-clause-further g c).In_ok-system in
+    let old = c.args.state.now in
+    let t = c.in_ok-system.system in
+    let reduced = c.in_ok-reduced.reduced in
+    let answer = c.in_ok-reduced.ensures in
+    let words : c.replace-words.result.items ≡ old.words.items = ap (λ ws. ws.items) c.replace-words.ensures.value in
+    let interface = c.in_ok-system.ensures.interface ∙ ap (λ (ws : List Word). (configuration_of ws old.terms 0).interface) words in
+    let equations = c.in_ok-system.ensures.equations ∙ ap (λ (ws : List Word). (configuration_of ws old.terms 0).equations) words in
+    let piece = c.in_ok-piece.ensures in
+    let sound = from.is.sound in (
+      reached_from (naming_here g at) (laws_here g at) s t sound (kept_by old) (kept_by c.take_in.new.state) from.is (c.in_ok-system.ensures.rules ∙ rules) interface equations c.in_ok-system.ensures.names c.in_ok-system.ensures.low
+          c.args.bounds answer.0 reduced.end reduced.interactions reduced.by_rule.items answer.1 answer.2 reduced.words.items reduced.terms answer.4.written
+          piece.text piece.words piece.terms piece.interactions piece.by_rule first from (quiet_here g at) (telling_here g at) piece.millis piece.ended.0
+          (whole c.take_in.new.state.words.items reduced.words.items piece.words answer.4.whole) reduced.equations
+          (ap (λ (ws : List Word). length (forest ws)) piece.words ∙ answer.4.counted ∙ omega (arith, piece.terms)),
+      comes s first (kept_by old) from (naming_here g at) (laws_here g at) t sound (c.in_ok-system.ensures.rules ∙ rules) interface equations c.in_ok-system.ensures.names
+          c.args.bounds answer.0 reduced.end reduced.interactions reduced.by_rule.items answer.1 answer.2
+          (kept_by c.take_in.new.state) piece.interactions
+          (as_many_nodes (telling_here g at) answer.0 reduced.words.items reduced.terms reduced.equations answer.4.counted answer.4.written ∙ ap (λ (ws : List Word). length ws) (sym piece.words)),
+    )
+
+pub returns-clause-answer : goal.returns-clause-answer
+returns-clause-answer g c s most rules is few = λ steps.
+    let at = (goal.at.returns-clause-answer g c).In_ok-system in
+    let old = c.args.state.now in
+    let t = c.in_ok-system.system in
+    let reduced = c.in_ok-reduced.reduced in
+    let answer = c.in_ok-reduced.ensures in
+    let words : c.replace-words.result.items ≡ old.words.items = ap (λ ws. ws.items) c.replace-words.ensures.value in
+    let interface = c.in_ok-system.ensures.interface ∙ ap (λ (ws : List Word). (configuration_of ws old.terms 0).interface) words in
+    let equations = c.in_ok-system.ensures.equations ∙ ap (λ (ws : List Word). (configuration_of ws old.terms 0).equations) words in
+    let piece = c.in_ok-piece.ensures in
+    subst (λ (e : End). IsAnswer s most e (kept_by c.take_in.new.state)) (sym piece.end)
+    (answer_of (naming_here g at) (laws_here g at) s t is.sound (kept_by old) (kept_by c.take_in.new.state) is (c.in_ok-system.ensures.rules ∙ rules) interface equations c.in_ok-system.ensures.names c.in_ok-system.ensures.low
+    c.args.bounds answer.0 reduced.end reduced.interactions reduced.by_rule.items answer.1 answer.2 reduced.words.items reduced.terms answer.4.written
+    piece.text piece.words piece.terms piece.interactions piece.by_rule most few (λ ended. steps (piece.end ∙ ended)))
+
+pub returns-clause-piece : goal.returns-clause-piece
+returns-clause-piece g c =
+    let at = (goal.at.returns-clause-piece g c).In_ok-system in
+    let t = c.in_ok-system.system in
+    let reduced = c.in_ok-reduced.reduced in
+    let answer = c.in_ok-reduced.ensures in
+    let r = answer.1 in
+    let piece = c.in_ok-piece.ensures in
+    let new = c.take_in.new.state in
+    let over = subst (λ (rs : Rules). IsTrue (list_all (is_word_over rs.symbols) reduced.words.items)) c.in_ok-system.ensures.rules answer.4.over in
+    let is = reached_written (naming_here g at) (laws_here g at) c.what_is_reached_is_one_net.ensures.itself t c.systems_are_sound.ensures.sound
+    c.args.bounds answer.0 reduced.end reduced.interactions reduced.by_rule.items answer.1 c.in_ok-system.ensures.low
+    reduced.words.items reduced.terms answer.4.written answer.4.whole reduced.equations answer.4.counted in
+    record {
+      later = omega (arith, piece.interactions);
+      within = omega (arith, piece.interactions, r.within);
+      steps = λ same.
+          let ended = subst (λ (e : End). EndsBy t.rules.rules c.args.bounds answer.0 reduced.interactions e) (sym piece.end ∙ same) r.ended in
+          omega (arith, ended.0, piece.interactions);
+      stays = λ same. counts_stay _ r.fired c.args.state.now.by_rule.items reduced.by_rule.items new.by_rule.items
+          (omega (arith, same, piece.interactions, r.counted)) r.counts piece.by_rule;
+      millis = piece.millis;
+      ended = subst (λ (e : End). (new.ended ≡ true) ↔ (e ≡ Quiet)) (sym piece.end) piece.ended;
+      numbered = λ few.
+          let short = subst (λ (ws : List Word). length ws ≤ MAX_WIDE_NODES) piece.words few in
+          let low = low_words (telling_here g at) answer.0 reduced.words.items reduced.terms reduced.equations answer.4.counted answer.4.written short in
+          let names = names-configuration_of reduced.words.items reduced.terms reduced.equations 0 answer.4.counted in
+          subst (λ (ws : List Word). AllByRecursion IsKeptWord ws) (sym piece.words)
+          (words_numbered t.rules.symbols c.systems_are_sound.ensures.symbols reduced.words.items answer.4.over
+          (subst (λ (ns : List ℕ). one_above ns ≤ MAX_NAME + 1) names low));
+      written = subst (λ (ws : List Word). IsWritten (arc_value c.args.rules.now).symbols ws new.terms) (sym piece.words)
+          (subst (λ (n : ℕ). IsWritten (arc_value c.args.rules.now).symbols reduced.words.items n) (sym piece.terms)
+          (subst (λ (rs : Rules). IsWritten rs.symbols reduced.words.items reduced.terms) c.in_ok-system.ensures.rules is));
+      printed = record {
+        whole = whole new.words.items reduced.words.items piece.words answer.4.whole;
+        over = subst (λ (ws : List Word). IsTrue (list_all (is_word_over (arc_value c.args.rules.now).symbols) ws)) (sym piece.words) over;
+        counted = ap (λ (ws : List Word). length (forest ws)) piece.words ∙ answer.4.counted ∙ omega (arith, piece.terms, piece.equations);
+      };
+    }
+
+pub returns-in_err-system-clause-sound : goal.returns-in_err-system-clause-sound
+returns-in_err-system-clause-sound g c is =
+    let old = c.args.state.now in
+    let words : c.replace-words.result.items ≡ old.words.items = ap (λ ws. ws.items) c.replace-words.ensures.value in
+    let e = err_from_is_err_and c.from_residual.result c.from_residual.ensures.1 in
+    let here = subst (λ (ws : List Word). IsWritten (arc_value c.args.rules.now).symbols ws old.terms) (sym words) is in
+    rw (e.1, e.2) (not_unsound c.in_err-system.field-0.0
+    (c.in_err-system.ensures.refused here.equations here.whole here.counted here.twice here.over))
+
+pub returns-in_err-system-clause-refused : goal.returns-in_err-system-clause-refused
+returns-in_err-system-clause-refused g c s first rules from =
+    let old = c.args.state.now in
+    let is = from.is in
+    let sound = is.sound in
+    let words : c.replace-words.result.items ≡ old.words.items = ap (λ ws. ws.items) c.replace-words.ensures.value in
+    let there = configuration_of old.words.items old.terms is.next in
+    let names = c.what_is_reached_is_one_net.ensures.names s.rules.rules s.config there is.way.fired is.way.reached in
+    let over = c.what_is_reached_is_one_net.ensures.over s.rules s.config there is.way.fired sound.rules sound.over sound.names is.way.reached in
+    let twice = subst (λ (ws : List Word). (n : ℕ) → occurrences n (configuration_names (configuration_of ws old.terms 0)) ≤ 2) (sym words) names.twice in
+    let e = err_from_is_err_and c.from_residual.result c.from_residual.ensures.1 in
+    rw (e.1, e.2) (record {
+      stops = c.in_err-system.ensures.refused is.equations
+          (whole c.replace-words.result.items old.words.items words is.whole)
+          (subst (λ (ws : List Word). length (forest ws) ≡ old.terms + 2 * is.equations) (sym words) is.counted)
+          twice
+          (subst (λ (ws : List Word). IsTrue (is_over (arc_value c.args.rules.now).symbols (configuration_of ws old.terms 0))) (sym words)
+          (subst (λ (rs : Rules). IsTrue (is_over rs.symbols there)) (sym rules) over));
+      limit = λ limit. inl (past_words s (kept_by old) c.what_is_reached_is_one_net.ensures.names is
+          (subst (λ (ws : List Word). (MAX_WIDE_NODES < configuration_nodes (configuration_of ws old.terms 0)) ⊎ (MAX_NAME + 1 < one_above (configuration_names (configuration_of ws old.terms 0)))) words
+          (c.in_err-system.ensures.limit twice limit)));
+    })
+
+pub returns-in_err-piece-clause-refused : goal.returns-in_err-piece-clause-refused
+returns-in_err-piece-clause-refused g c s first rules from =
+    let at = (goal.at.returns-in_err-piece-clause-refused g c).In_ok-system in
+    let old = c.args.state.now in
+    let t = c.in_ok-system.system in
+    let reduced = c.in_ok-reduced.reduced in
+    let answer = c.in_ok-reduced.ensures in
+    let words : c.replace-words.result.items ≡ old.words.items = ap (λ ws. ws.items) c.replace-words.ensures.value in
+    let interface = c.in_ok-system.ensures.interface ∙ ap (λ (ws : List Word). (configuration_of ws old.terms 0).interface) words in
+    let equations = c.in_ok-system.ensures.equations ∙ ap (λ (ws : List Word). (configuration_of ws old.terms 0).equations) words in
+    let same = c.in_ok-system.ensures.rules ∙ rules in
+    let long : length old.by_rule.items ≡ length reduced.by_rule.items = from.is.way.counts.all ∙ sym (answer.1.counts.all ∙ ap (λ (rs : Rules). length rs.rules) same) in
+    let e = err_from_is_err_and c.from_residual-in_err-piece.result c.from_residual-in_err-piece.ensures.1 in
+    rw (e.1, e.2) (record {
+      stops = inr c.in_err-piece.ensures.refused;
+      limit = λ limit. inr (past_sums s first (kept_by old) from (naming_here g at) (laws_here g at) t from.is.sound same interface equations c.in_ok-system.ensures.names
+          c.args.bounds answer.0 reduced.end reduced.interactions reduced.by_rule.items answer.1 answer.2 (c.in_err-piece.ensures.limit long));
+    })
+
+pub returns-in_err-reduced-clause-refused : goal.returns-in_err-reduced-clause-refused
+returns-in_err-reduced-clause-refused g c s first rules from =
+    let e = err_from_is_err_and c.from_residual-in_err-reduced.result c.from_residual-in_err-reduced.ensures.1 in
+    rw (e.1, e.2) (piece_without_memory s first c.args.state.now _ refl)
+
+pub returns-in_err-system-clause-only : goal.returns-in_err-system-clause-only
+returns-in_err-system-clause-only g c =
+    let e = err_from_is_err_and c.from_residual.result c.from_residual.ensures.1 in
+    rw (e.1, e.2) c.in_err-system.ensures.only
