@@ -16,10 +16,12 @@ prove: # proves and builds the program, in half an hour to an hour on 4 cores; f
 check: # the gate, ./gate: proves all from nothing, and tries edits, rows and the program
 	./gate
 trials: # tries the program that ./icserve runs
-	ICSERVE=$$(ICSERVE_BUILD=found ./icserve) python3 trials
+	program="$$(ICSERVE_BUILD=found ./icserve)"
+	ICSERVE="$$program" python3 trials
 install: # puts the program into PREFIX/bin (if not said ~/.local/bin), the proved one where it is there, its scripts, their manual pages and completions, the library and the Python package
 	to="$(DESTDIR)$(patsubst ~/%,$(HOME)/%,$(PREFIX))"
-	install -vD "$$(ICSERVE_BUILD=found ./icserve)" "$$to/bin/icserve"
+	program="$$(ICSERVE_BUILD=found ./icserve)"
+	install -vD "$$program" "$$to/bin/icserve"
 	for it in film listen send page; do install -vD $$it "$$to/bin/icserve-$$it"; done
 	python3 share/pages.py "$$to/bin/icserve" "$$to"
 	install -vDm 644 -t "$$to/$(PACKAGES)/icserve" python/icserve/*.py python/icserve/py.typed
@@ -38,18 +40,20 @@ dist: # makes a release in out/dist, an archive and a package of Debian: of the 
 	    ICSERVE_BUILD=unproved ./icserve
 	    python3 share/dist.py out/icserve icserve-unproved out/dist
 	else
-	    at="$$(ICSERVE_BUILD=found ./icserve 2>/dev/null)"
+	    at="$$(ICSERVE_BUILD=found ./icserve)"
 	    case $$at in */crates/icserve/out/icserve) ;; *) echo "make dist: the proved program isn't there: make prove proves it, and UNPROVED=1 takes another" >&2; exit 1 ;; esac
 	    python3 share/dist.py "$$at" icserve out/dist
 	fi
 bench: # times the program on the systems of docs/speed.md, beside a plain one where there is a C compiler; WITH=.. hands on words, of which WITH=--help tells
 	mkdir -p out
 	! command -v cc >/dev/null || cc -O2 -o out/plain bench/plain.c
-	python3 bench "$$(ICSERVE_BUILD=found ./icserve)" $$([ ! -x out/plain ] || echo --plain out/plain) $(WITH)
+	program="$$(ICSERVE_BUILD=found ./icserve)"
+	python3 bench "$$program" $$([ ! -x out/plain ] || echo --plain out/plain) $(WITH)
 bench-clients: # times a server: changes in a second of 1, 8 and 64 clients, also where syncs are slow, and rounds by several threads; WITH=.. hands on words
 	mkdir -p out
 	! command -v cc >/dev/null || cc -O1 -shared -fPIC -o out/shim.so trials/shim.c -ldl -lpthread
-	python3 bench/clients.py "$$(ICSERVE_BUILD=found ./icserve)" $$([ ! -x out/shim.so ] || echo --shim out/shim.so) $(WITH)
+	program="$$(ICSERVE_BUILD=found ./icserve)"
+	python3 bench/clients.py "$$program" $$([ ! -x out/shim.so ] || echo --shim out/shim.so) $(WITH)
 clean: # removes what was built, and what is kept of proofs
 	rm -rf out crates/*/out
 

@@ -102,6 +102,13 @@ class Calls(Trial):
             self.equals(ran.command, "how it ends", (4, b"", True), (ran.status, ran.out, ran.err.startswith(b"icserve-page: port ")))
         self.equals(page.process.args, "status, by SIGTERM", 0, page.process.returncode)
 
+    def test_where_the_program_is_wanting_no_page_is_shown(self):
+        """Its first call builds that of a clone, for longer than a call of the page may take, so the page begins with it."""
+        for path, told in ((self.room / "none", b"icserve-page: "), (shutil.which("false"), b"")):
+            ran = run(TOP / "page", program=sys.executable, env={**os.environ, "ICSERVE": str(path)})
+            self.equals(ran.command, "how it ends", (4, b"", True), (ran.status, ran.out, ran.err.startswith(told)))
+            self.equals(ran.command, "how many lines it tells", len(told) > 0, ran.err.count(b"\n"))
+
     def test_films_stand_in_a_frame_of_their_own(self):
         if not shutil.which("dot"):
             self.skipTest("Graphviz isn't there")

@@ -114,6 +114,12 @@ class Calls(Package):
             self.equals(path, "functions without types", [], untyped)
         self.equals(PACKAGE, "whether it says that it has types", True, (PACKAGE / "py.typed").exists())
 
+    def test_mypy_finds_no_fault_of_types(self):
+        if not shutil.which("mypy"):
+            self.skipTest("mypy isn't installed: types are not tried")
+        ran = run("--strict", "--cache-dir", self.room, PACKAGE, program=shutil.which("mypy"))
+        self.equals(ran.command, f"how it ends; it said {ran.out}", 0, ran.status)
+
 
 class Servers(Package):
     def test_commands_and_refusals(self):

@@ -1,6 +1,7 @@
 """What the program does with a text: it reduces, traces, checks, expands and draws it."""
 
 import html
+import importlib
 import json
 import os
 import re
@@ -191,12 +192,15 @@ def film(text: str, rounds: Optional[int] = None, begin: Optional[int] = None) -
     return Film(run(*words, given=text, command=[script]).well().out)
 
 
+def new_axes() -> Any:
+    """The axes of matplotlib's figure, which is made where there is none."""
+    return importlib.import_module("matplotlib.pyplot").gca()
+
+
 def plot(rows: Sequence[Row], axes: Any = None) -> Any:
     """A plot of how many pairs each round fires, by matplotlib."""
     if axes is None:
-        from matplotlib import pyplot
-
-        axes = pyplot.gca()
+        axes = new_axes()
     axes.bar([it.round for it in rows], [it.pairs for it in rows])
     axes.set_xlabel("round")
     axes.set_ylabel("pairs that fire")
@@ -206,9 +210,7 @@ def plot(rows: Sequence[Row], axes: Any = None) -> Any:
 def plot_times(answers: Sequence[Answer], axes: Any = None) -> Any:
     """A plot of the milliseconds that reductions took against their interactions, both by powers of ten, by matplotlib."""
     if axes is None:
-        from matplotlib import pyplot
-
-        axes = pyplot.gca()
+        axes = new_axes()
     axes.loglog([it.interactions for it in answers], [it.milliseconds for it in answers], "o")
     axes.set_xlabel("interactions")
     axes.set_ylabel("milliseconds")

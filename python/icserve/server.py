@@ -92,7 +92,8 @@ class Server:
                 time.sleep(0.1)
         else:
             there.connect(path)
-        self._given = self._came = there.makefile("rwb")
+        both: Any = there.makefile("rwb")
+        self._given = self._came = both
         there.close()
 
     def __enter__(self) -> "Server":

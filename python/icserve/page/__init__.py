@@ -17,7 +17,7 @@ from pathlib import Path
 from typing import Any, Callable, Dict, List, Optional, Tuple
 
 from ..nets import answer_of, finding_of
-from ..program import Ran, Refusal, found, run
+from ..program import Ran, Refusal, found, program, run
 from ..server import Server, ServerEnded
 
 HERE = Path(__file__).resolve().parent
@@ -294,12 +294,24 @@ class Listener(ThreadingHTTPServer):
         """A browser that goes away is no fault."""
 
 
+def is_there() -> bool:
+    """Whether the program is there. That of a clone is built first, which may take minutes; what is told of it stands on standard
+    error."""
+    try:
+        return not subprocess.run([program(), "--version"], stdin=subprocess.DEVNULL, stdout=subprocess.DEVNULL).returncode
+    except OSError as fault:
+        print(f"icserve-page: {fault}", file=sys.stderr)
+        return False
+
+
 def main() -> int:
     form = argparse.ArgumentParser("icserve-page", description="Shows a page in the browser on which nets are written, reduced, stepped through and drawn.")
     form.add_argument("--socket", metavar="PATH", help="the socket of a server of jobs, which icserve-listen runs: its jobs are shown too")
     form.add_argument("--port", metavar="N", type=int, default=0, help="the port on 127.0.0.1; without it a free one")
     form.add_argument("--open", action="store_true", help="opens the page in a browser")
     words = form.parse_args()
+    if not is_there():
+        return 4
     page = Page(os.path.abspath(words.socket) if words.socket else None)
     try:
         listener = Listener(words.port, page)
