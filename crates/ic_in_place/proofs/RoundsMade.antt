@@ -1,5 +1,5 @@
 -- Lemmas: rounds of a machine, one after the other.
-use Rattle.std.proofs.Common.{◌≡◌, ◌⊎◌, inl, inr, ℕ, zero, suc, ◌+◌, ◌≤◌, List, [], ◌∷◌, ◌++◌, length, take, drop, refl, sym, ap, arith, subst}
+use Rattle.std.proofs.Common.{◌≡◌, ◌⊎◌, inl, inr, ℕ, zero, suc, ◌+◌, ◌≤◌, List, [], ◌∷◌, ◌++◌, length, take, refl, sym, ap, arith, subst}
 use Rattle.std.specs.List.{AllByRecursion}
 use Rattle.std.specs.Prelude.{Contains}
 use Rattle.std.proofs.lemmas.List.{length-append}
@@ -20,11 +20,6 @@ use Rattle.ic_in_place.specs.Told.{RoundOver, IsBetween}
 use Rattle.ic_in_place.specs.inner.Rounds.{AreSomeActive, RoundBegins}
 
 -- ---- lists
-
-none_left : {X : Type 0} (k : ℕ) (xs : List X) → drop k (take k xs) ≡ []
-none_left zero xs = refl
-none_left (suc k) [] = refl
-none_left (suc k) (x ∷ xs) = none_left k xs
 
 all_taken : {X : Type 0} (xs : List X) → take (length xs) xs ≡ xs
 all_taken [] = refl
@@ -55,12 +50,12 @@ takes_active p _ _ _ _ _ e (stays d now es left is xs before ys order t stuck r)
 
 -- ---- one round more
 
-advanced_active : (p : Plans) (g h : Generation) (old new : Net) (a : Advances p g h old new) → h.place ≡ h.end
+advanced_active : (p : Plans) (g h : Generation) (old new : Net) (a : Advances p g h old new) → h.end ≡ 0
     → AreSomeActive p (present g old.pending) → 1 ≤ length a.ran.fired
 advanced_active p g h old new a over active =
     takes_active p (present g old.pending) (present h new.pending) a.ran.fired (beside (later g old.pending) old)
     (beside (later h new.pending) new) active.0 a.takes
-    (subst (λ (k : ℕ). drop k (take h.end new.pending) ≡ []) (sym over) (none_left h.end new.pending)) active.1 active.2
+    (ap (λ (k : ℕ). take k new.pending) over) active.1 active.2
 
 each_more : (ms : List (List ℕ)) (fired : List ℕ) → AllByRecursion (λ f. 1 ≤ length f) ms → 1 ≤ length fired
     → AllByRecursion (λ f. 1 ≤ length f) (ms ++ fired ∷ [])
@@ -74,7 +69,7 @@ fire_more (m ∷ made) fired firing (inl none) = absurd (cc none)
 fire_more (m ∷ made) fired firing (inr one) = each_more made fired firing one
 
 some_fires : (p : Plans) (pairs rounds : ℕ) (g h : Generation) (first old new : Net) → RoundBegins p pairs rounds g first old
-    → (a : Advances p g h old new) → h.place ≡ h.end → (made : List (List ℕ))
+    → (a : Advances p g h old new) → h.end ≡ 0 → (made : List (List ℕ))
     → (made ≡ []) ⊎ AreSomeActive p (present g old.pending) → (made ≡ []) ⊎ (1 ≤ length a.ran.fired)
 some_fires p pairs rounds g h first old new b a over made (inl none) = inl none
 some_fires p pairs rounds g h first old new b a over made (inr active) = inr (advanced_active p g h old new a over active)
@@ -109,7 +104,7 @@ pub record RoundIsOver (p : Plans) (pairs rounds : ℕ) (g h : Generation) (firs
   pub are_told : AreTold p first pairs (b.made ++ a.ran.fired ∷ []) (told_next b.told (length b.made) (length a.ran.fired) new)
 
 pub is_over : (p : Plans) (pairs rounds : ℕ) (g h : Generation) (first old new : Net) (b : RoundBegins p pairs rounds g first old)
-    (a : Advances p g h old new) → h.place ≡ h.end → IsBetween new → RoundIsOver p pairs rounds g h first old new b a
+    (a : Advances p g h old new) → h.end ≡ 0 → IsBetween new → RoundIsOver p pairs rounds g h first old new b a
 is_over p pairs rounds g h first old new b a over between =
     let are : AreRounds p first pairs b.made a.ran.fired h new = goes_on b.made [] g h old new b.are a in
     let many : length (b.made ++ a.ran.fired ∷ []) ≡ length b.made + 1 = length-append b.made (a.ran.fired ∷ []) in
@@ -124,7 +119,7 @@ is_over p pairs rounds g h first old new b a over between =
 
 -- the first round begins
 pub first_begins : (p : Plans) (pairs : ℕ) (m : Net) → pairs ≤ length m.pending → (P : List RoundOver → Type 0) → P []
-    → (b : RoundBegins p pairs 0 (record { place = 0; end = pairs }) m m) × P b.told
+    → (b : RoundBegins p pairs 0 (record { end = pairs }) m m) × P b.told
 first_begins p pairs m few P holds = (
   record {
     made = [];
@@ -135,7 +130,7 @@ first_begins p pairs m few P holds = (
     told = [];
     are_told = none_told;
     active = inl refl;
-    within = record { place = omega arith; end = few };
+    within = few;
     ran = ran_none p m;
   },
   holds,
@@ -143,12 +138,12 @@ first_begins p pairs m few P holds = (
 
 -- the next round begins, if a pair can fire
 pub next_begins : (p : Plans) (pairs rounds : ℕ) (g h : Generation) (first old new : Net) (b : RoundBegins p pairs rounds g first old)
-    (a : Advances p g h old new) → h.place ≡ h.end → IsBetween new → AreSomeActive p new.pending
+    (a : Advances p g h old new) → h.end ≡ 0 → IsBetween new → AreSomeActive p new.pending
     → (P : List RoundOver → Type 0) → P (told_next b.told (length b.made) (length a.ran.fired) new)
-    → (next : RoundBegins p pairs (rounds + 1) (record { place = 0; end = length new.pending }) first new) × P next.told
+    → (next : RoundBegins p pairs (rounds + 1) (record { end = length new.pending }) first new) × P next.told
 next_begins p pairs rounds g h first old new b a over between active P holds =
     let done = is_over p pairs rounds g h first old new b a over between in
-    let next : RoundBegins p pairs (rounds + 1) (record { place = 0; end = length new.pending }) first new = record {
+    let next : RoundBegins p pairs (rounds + 1) (record { end = length new.pending }) first new = record {
       made = b.made ++ a.ran.fired ∷ [];
       are = next_round b.made a.ran.fired h new done.are over between.places;
       over = done.over;
@@ -157,7 +152,7 @@ next_begins p pairs rounds g h first old new b a over between active P holds =
       told = told_next b.told (length b.made) (length a.ran.fired) new;
       are_told = done.are_told;
       active = inr (subst (AreSomeActive p) (sym (all_taken new.pending)) active);
-      within = record { place = omega arith; end = omega arith };
+      within = omega arith;
       ran = ran_on p first old new b.ran a.ran;
     } in
     (next, holds)
@@ -195,7 +190,7 @@ ends_within p pairs most rounds end g h first old new b a few quiet steps P hold
 
 -- As a round is over, and no pair is left that can fire.
 pub ends_quiet : (p : Plans) (pairs most rounds : ℕ) (g h : Generation) (first old new : Net)
-    → (b : RoundBegins p pairs rounds g first old) → (a : Advances p g h old new) → h.place ≡ h.end → rounds + 1 ≤ most
+    → (b : RoundBegins p pairs rounds g first old) → (a : Advances p g h old new) → h.end ≡ 0 → rounds + 1 ≤ most
     → IsBetween new → AllByRecursion (IsStuck p) new.pending → (P : List RoundOver → Type 0) → P (told_next b.told (length b.made) (length a.ran.fired) new)
     → (ends : EndsAfter p pairs most (rounds + 1) Quiet first new) × P ends.told
 ends_quiet p pairs most rounds g h first old new b a over few between stuck P holds =

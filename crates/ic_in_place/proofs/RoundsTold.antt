@@ -100,7 +100,7 @@ pub record LeftLaws : Type 0 where
       → IsRuleSet rs → IsTrue (is_over rs.symbols c) → HasNames c → ArePlans p → ArePlansOf rs numbers p → length p.arities < GIVEN
       → IsPlan p.arities (length given) plan → StandsForNet p.arities given c plan operands → AreGiven given c
       → LinksPairsFirst p.arities (length given) plan pairs → Starts p (length given) plan operands first
-      → IsSeparate p.arities first.interface (pieces first) → first.aside ≡ [] → AreRounds p first pairs over now g m → g.place ≡ g.end
+      → IsSeparate p.arities first.interface (pieces first) → first.aside ≡ [] → AreRounds p first pairs over now g m → g.end ≡ 0
       → (n : Numbers) × (n.arities ≡ p.arities) × (n.given ≡ given) × AreNumbers n × OneNet c (net_of n first.interface (pieces first))
       × KeepsNet rs n m.interface (pieces m) × OneNet (net_of n m.interface (pieces m)) (iterate rs.rules (length over + 1) c) × FireAsRounds rs.rules numbers (over ++ now ∷ []) c
   pub left : (n : Numbers) (m : Net) (d : Configuration) → AreNumbers n → AreNetPieces n.arities m.interface (pieces m)

@@ -29,7 +29,7 @@ use Rattle.ic_in_place.specs.declared.stream.Outcome.{Outcome}
 pub data AreOver (p : Plans) (first : Net) (pairs : ℕ) : List (List ℕ) → Net → Type 0 where
   none_yet : AreOver p first pairs [] first
   some : (over : List (List ℕ)) (last : List ℕ) (g : Generation) (m : Net) → AreRounds p first pairs over last g m
-      → g.place ≡ g.end → AreOver p first pairs (over ++ last ∷ []) m
+      → g.end ≡ 0 → AreOver p first pairs (over ++ last ∷ []) m
 
 -- This is told of rounds, by the plans that fired in each: their numbers from 1 on, how many pairs fired, and the nets.
 pub data AreTold (p : Plans) (first : Net) (pairs : ℕ) : List (List ℕ) → List RoundOver → Type 0 where

@@ -140,7 +140,6 @@ pub fn run_by_rounds<V: Watch, S: Rows<W>, W: Write>(
         due: names_until_sweep(machine),
     };
     let mut generation = Generation {
-        place: 0,
         end: pairs,
     };
     for round in 0..rounds {
@@ -189,7 +188,7 @@ fn take_all<V: Watch>(
     requires within { IsWithin generation.old machine.old.pending }
     requires looks { machine.old.interactions ≤ looks.old.next }
     ensures advances { Advances program.now generation.old generation.new machine.old machine.new }
-    ensures over { IfNone result (generation.new.place ≡ generation.new.end) }
+    ensures over { IfNone result (generation.new.end ≡ 0) }
     ensures broken { IfSome result (λ end. (end ≢ End.Quiet) × (end ≢ End.Steps)) }
     ensures looks { machine.new.interactions ≤ looks.new.next }
 {

@@ -1,12 +1,11 @@
 -- Lemmas: no two borders of a machine have one cut, or one name.
-use Rattle.std.proofs.Common.{◌≡◌, ℕ, ◌≤◌, ◌==◌, List, [], ◌∷◌, Option, Some, map, slice_get, suc, refl, sym, subst}
+use Rattle.std.proofs.Common.{◌≡◌, ℕ, ◌≤◌, ◌==◌, List, [], ◌∷◌, Option, Some, map, slice_get, suc, refl, subst}
 use Rattle.std.specs.List.{AllByRecursion, IsDistinct}
-use Rattle.std.specs.Map.{keys_of}
 use Rattle.std.proofs.lemmas.Cmp.{nat_eq_equiv}
 use Rattle.std.proofs.lemmas.Map.Entries.{lookup_from_place}
 use Rattle.ic_machine.specs.declared.borders.Border.{Border}
 use Rattle.ic_machine.specs.declared.borders.Borders.TheInside.{Inside}
-use Rattle.ic_machine.specs.Moving.{CutEnd, Ends, times}
+use Rattle.ic_machine.specs.Moving.{times}
 use Rattle.ic_machine.specs.inner.Borders.{cut_at, end_of, ends_of, AreListed}
 use Rattle.ic_machine.proofs.Ends.{cuts_in, keys_cuts}
 use Rattle.ic_machine.proofs.EndsOnce.{distinct_once, names_once}

@@ -38,7 +38,8 @@ pub mod Opening
 pub mod Waiting
 pub mod ByHand
 pub mod Changed
-pub mod Exchanged
+pub mod Fired
+pub mod Queues
 pub mod Takings
 pub mod Advancing
 pub mod Heads

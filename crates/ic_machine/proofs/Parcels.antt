@@ -19,6 +19,7 @@ use Rattle.ic_machine.specs.Separate.{IsSeparate}
 use Rattle.ic_machine.specs.inner.Firing.{arities_of}
 use Rattle.ic_machine.specs.inner.Machine.{net_of, IsSound}
 use Rattle.ic_machine.specs.inner.Moving.{places_in, AreInHand, AreLeft, HasMoreNames, IsAsLarge, PacksTree}
+use Rattle.ic_machine.specs.inner.Queue.{Queued}
 use Rattle.ic_machine.specs.lemmas.Balance.{equations_room}
 use Rattle.ic_machine.specs.lemmas.Spelled.{spells_from, spells_none, spells_on}
 use Rattle.ic_machine.proofs.Heaps.{as_many}
@@ -157,6 +158,9 @@ given_hand arities interface ends pending aside k ps s =
 
 pub items_of : (v w : Vec Equation Global) → v ≡ w → v.items ≡ w.items
 items_of v w e = ap (λ (x : Vec Equation Global). x.items) e
+
+pub queued_of : (v w : Queued) → v ≡ w → v.items ≡ w.items
+queued_of v w e = ap (λ (q : Queued). q.items) e
 
 pub words_of : (v w : Vec Word Global) → v ≡ w → v.items ≡ w.items
 words_of v w e = ap (λ (x : Vec Word Global). x.items) e

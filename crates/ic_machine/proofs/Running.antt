@@ -1,9 +1,8 @@
 -- What a run leads to, from its parts.
-use Rattle.std.proofs.Common.{◌≡◌, ℕ, zero, suc, ◌+◌, ◌-◌, ◌<◌, List, [], ◌∷◌, ◌++◌, length, map, take, Option, None, Some, MatchOption, is_none, false, slice_get, IfSome, refl, ap, sym, subst, ◌∙◌, append_assoc, arith, sum_by}
+use Rattle.std.proofs.Common.{◌≡◌, ℕ, zero, suc, ◌+◌, ◌<◌, List, [], ◌∷◌, ◌++◌, length, map, Option, None, Some, MatchOption, is_none, false, slice_get, IfSome, refl, ap, sym, subst, ◌∙◌, append_assoc, arith, sum_by}
 use Rattle.std.specs.List.{AllByRecursion}
 use Rattle.std.specs.List.Sorted.{IsPermutation}
-use Rattle.std.proofs.Math.Seq.{take-append_seam}
-use Rattle.std.proofs.lemmas.List.{append-nil, length_push, map-append}
+use Rattle.std.proofs.lemmas.List.{append-nil, map-append}
 use Rattle.std.proofs.lemmas.List.Sorted.{IsPermutation-refl, IsPermutation-sym, IsPermutation-trans, IsPermutation-append_left, IsPermutation-append_right, IsPermutation-append_comm, IsPermutation-cons, IsPermutation-map, IsPermutation-to_front}
 use Rattle.std.proofs.lemmas.List.Sums.{sum_by-append}
 use Rattle.ic_arena.specs.declared.word.Word.{Word}
@@ -11,7 +10,7 @@ use Rattle.ic_arena.specs.Word.{count}
 use Rattle.ic_arena.specs.Piece.{Piece, room, uses}
 use Rattle.ic_machine.specs.declared.equation.Equation.{Equation}
 use Rattle.ic_machine.specs.Plan.{Planned, Plans, IsPlan, plan_at}
-use Rattle.ic_machine.specs.Net.{equated_of, HasNext, IsStuck, IsPair}
+use Rattle.ic_machine.specs.Net.{equated_of, HasNext, IsActive, IsStuck, IsPair}
 use Rattle.ic_machine.specs.Runs.{Way}
 use Rattle.ic_machine.specs.Separate.{IsSeparate}
 use Rattle.ic_machine.specs.Steps.{Steps, no_step}
@@ -183,58 +182,27 @@ held_way p is ms ps us qs n h n' h' w =
     (way_from p is ms start held after (no_step start held (held_order (map equated_of ps) (map equated_of us) n h)) w)
     (IsPermutation-sym end after (held_order (map equated_of qs) (map equated_of us) n' h'))
 
--- the last of some equations
-pub last_of : (es : List Equation) (n : ℕ) (e : Equation) → n + 1 ≡ length es → slice_get es n ≡ Some e
-    → IsLast e es
-last_of [] n e len h = absurd (omega arith)
-last_of (x ∷ []) zero e len h = record { front = []; is = ap (λ (v : Equation). v ∷ []) (inside x e h) }
-  where
-    inside : (a b : Equation) → ◌≡◌ {A = Option Equation} (Some a) (Some b) → a ≡ b
-    inside a b e = cc
-last_of (x ∷ []) (suc n) e len h = absurd (omega arith)
-last_of (x ∷ (y ∷ ys)) zero e len h = absurd (omega arith)
-last_of (x ∷ (y ∷ ys)) (suc n) e len h =
-    let ih : IsLast e (y ∷ ys) = last_of (y ∷ ys) n e (omega arith) h in
-    record { front = x ∷ ih.front; is = ap (λ (l : List Equation). x ∷ l) ih.is }
+-- a pair that has a plan is active
+abbrev pub active_pair : (p : Plans) (e : Equation) (plan : Planned) → HasPlan p e plan → IsActive p e
+active_pair p e plan has = record {
+  left = has.left;
+  right = has.right;
+  left_tag = has.left_tag;
+  right_tag = has.right_tag;
+  left_known = has.left_known;
+  right_known = has.right_known;
+  plan = plan;
+  is = has.is;
+}
 
--- what is left where the last is taken out
-pub popped : (es new : List Equation) (n : ℕ) (e : Equation) → IsLast e es → n + 1 ≡ length es
-    → new ≡ take n es → es ≡ new ++ e ∷ []
-popped es new n e last len rest =
-    let whole : length es ≡ length last.front + 1 = ap length last.is ∙ length_push last.front e in
-    let here : n ≡ length last.front = omega arith in
-    let front = rest ∙ (ap (λ (k : ℕ). take k es) here
-    ∙ (ap (take (length last.front)) last.is ∙ take-append_seam last.front (e ∷ []))) in
-    last.is ∙ ap (λ (l : List Equation). l ++ e ∷ []) (sym front)
-
--- the last of some equations, if there is one
-pub last_here : (es : List Equation) (e : Equation) → slice_get es (length es - 1) ≡ Some e
-    → IsLast e es × ((length es - 1) + 1 ≡ length es)
-last_here [] e h = absurd (none_some e h)
-  where
-    none_some : (x : Equation) → ◌≡◌ {A = Option Equation} None (Some x) → ⊥
-    none_some x h = cc
-last_here (x ∷ xs) e h =
-    let len : (length (x ∷ xs) - 1) + 1 ≡ length (x ∷ xs) = omega arith in
-    (last_of (x ∷ xs) (length (x ∷ xs) - 1) e len h, len)
-
--- a pair that has a plan, and is the last, is the next
+-- one that is the last is the next
 abbrev pub next_pair : (p : Plans) (es : List Equation) (e : Equation) (plan : Planned) → IsLast e es → HasPlan p e plan
     → HasNext p es
 next_pair p es e plan last has = record {
   front = last.front;
   pair = e;
   last = last.is;
-  active = record {
-    left = has.left;
-    right = has.right;
-    left_tag = has.left_tag;
-    right_tag = has.right_tag;
-    left_known = has.left_known;
-    right_known = has.right_known;
-    plan = plan;
-    is = has.is;
-  };
+  active = active_pair p e plan has;
 }
 
 pub found_next : {X : Type 0} (pair : X → Equation) (number : X → ℕ) (p : Plans) (es : List Equation) (o : Option X)

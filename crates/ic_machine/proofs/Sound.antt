@@ -1,9 +1,12 @@
 -- What a machine keeps, where its parts change.
-use Rattle.std.proofs.Common.{◌≡◌, ℕ, zero, suc, ◌+◌, ◌^◌, ◌<◌, ◌≤◌, ◌==◌, List, [], ◌∷◌, ◌++◌, Bool, true, false, cond, count_by, slice_index_or, length, map, take, refl, ap, sym, subst, add-zero, arith, vec_capacity}
+use Rattle.std.proofs.Common.{◌≡◌, ℕ, zero, suc, ◌+◌, ◌^◌, ◌<◌, ◌≤◌, ◌==◌, List, [], ◌∷◌, ◌++◌, Bool, true, false, cond, count_by, slice_index_or, length, map, take, refl, ap, sym, subst, ◌∙◌, append_assoc, add-zero, arith}
 use Rattle.std.specs.Global.{Vec}
 use Rattle.std.specs.List.{AllByRecursion}
+use Rattle.std.specs.List.Sorted.{IsPermutation}
 use Rattle.std.proofs.Math.Seq.{take-append_seam, take-length}
+use Rattle.std.proofs.lemmas.List.{map-append}
 use Rattle.std.proofs.lemmas.List.FromFn.{length-map-range_with_len}
+use Rattle.std.proofs.lemmas.List.Sorted.{IsPermutation-middle, IsPermutation-sym}
 use Rattle.ic_arena.specs.declared.word.Word.{Word}
 use Rattle.ic_arena.specs.Word.{agent_word}
 use Rattle.ic_arena.specs.Piece.{Piece}
@@ -12,25 +15,29 @@ use Rattle.ic_machine.specs.declared.equation.Equation.{Equation}
 use Rattle.ic_machine.specs.declared.machine.Machine.TheInside.{Inside}
 use Rattle.ic_machine.specs.declared.plan.Plan.{Plan}
 use Rattle.ic_machine.specs.Plan.{Plans, constants, planned}
-use Rattle.ic_machine.specs.Net.{Net, equated_of}
+use Rattle.ic_machine.specs.Net.{Net, equated_of, pieces, IsPair, IsStuck}
 use Rattle.ic_machine.specs.Runs.{Counted, Ran}
 use Rattle.ic_machine.specs.Separate.{IsSeparate}
+use Rattle.ic_machine.specs.Steps.{no_step}
 use Rattle.ic_machine.specs.inner.Firing.{heaps_pieces, arities_of}
 use Rattle.ic_machine.specs.inner.Machine.{IsSound, net_of}
 use Rattle.ic_machine.specs.inner.Pairs.{Passed}
+use Rattle.ic_machine.specs.inner.Queue.{Queued}
+use Rattle.ic_machine.specs.lemmas.FiringKeeps.{all_append}
 use Rattle.ic_machine.specs.lemmas.RunsOn.{counted_none}
+use Rattle.ic_machine.specs.lemmas.Separation.{separate_in_order}
 use Rattle.ic_machine.proofs.InUse.{same_places}
-use Rattle.ic_machine.proofs.Spare.{passed_spare}
+use Rattle.ic_machine.proofs.Spare.{passed_spare, spare_fewer}
 use Rattle.ic_machine.proofs.Running.{passed_aside, passed_pairs, passed_separate, passed_steps}
 
 -- a machine of which equations were set aside
-abbrev pub set_aside : Inside → Vec Equation → Vec Equation → Inside
+abbrev pub set_aside : Inside → Queued → Vec Equation → Inside
 set_aside m pending aside = record m { aside = aside; tables = record m.tables { pending = pending } }
 
-module _ (p : Plans) (m : Inside) (pending aside : Vec Equation)
+module _ (p : Plans) (m : Inside) (pending : Queued) (aside : Vec Equation)
     (h : Passed p m.tables.pending.items m.aside.items pending.items aside.items) where
   -- it keeps what it kept
-  pub passed_sound : IsSound m → vec_capacity pending ≡ vec_capacity m.tables.pending → IsSound (set_aside m pending aside)
+  pub passed_sound : IsSound m → pending.capacity ≡ m.tables.pending.capacity → IsSound (set_aside m pending aside)
   passed_sound sound memory = record {
     separate = passed_separate (arities_of m.tables.heaps.items) m.interface.items p m.tables.pending.items m.aside.items
         pending.items aside.items (names_pieces 0 m.tables.names.entries ++ heaps_pieces 0 m.tables.heaps.items) h sound.separate;
@@ -59,6 +66,60 @@ module _ (p : Plans) (m : Inside) (pending aside : Vec Equation)
     aside = h.after;
     stuck = h.stuck;
   })
+
+-- a machine of which the first pending pair, which is stuck, was set aside
+module _ (p : Plans) (m : Inside) (pending : Queued) (aside : Vec Equation) (e : Equation) (stuck : IsStuck p e)
+    (first : m.tables.pending.items ≡ e ∷ pending.items) (put : aside.items ≡ m.aside.items ++ e ∷ []) where
+  -- the same pieces
+  first_order : IsPermutation (pieces (net_of m)) (pieces (net_of (set_aside m pending aside)))
+  first_order =
+      let x : Piece = equated_of e in
+      let q : List Piece = map equated_of pending.items in
+      let a : List Piece = map equated_of m.aside.items in
+      let others : List Piece = (net_of m).places in
+      let before : pieces (net_of m) ≡ x ∷ (q ++ (a ++ others)) = ap (λ (l : List Equation). map equated_of l ++ (a ++ others)) first in
+      let after : pieces (net_of (set_aside m pending aside)) ≡ (q ++ a) ++ x ∷ others =
+      ap (λ (l : List Equation). q ++ (map equated_of l ++ others)) put
+      ∙ (ap (λ (l : List Piece). q ++ (l ++ others)) (map-append equated_of m.aside.items (e ∷ []))
+      ∙ (ap (λ (l : List Piece). q ++ l) (append_assoc a (x ∷ []) others) ∙ sym (append_assoc q a (x ∷ others)))) in
+      let moved = IsPermutation-sym ((q ++ a) ++ x ∷ others) (x ∷ ((q ++ a) ++ others)) (IsPermutation-middle (q ++ a) x others) in
+      subst (λ (l : List Piece). IsPermutation l (pieces (net_of (set_aside m pending aside)))) (sym before)
+      (subst (λ (l : List Piece). IsPermutation (x ∷ (q ++ (a ++ others))) l) (sym after)
+      (subst (λ (l : List Piece). IsPermutation (x ∷ l) ((q ++ a) ++ x ∷ others)) (append_assoc q a others) moved))
+
+  -- it keeps what it kept
+  pub first_sound : IsSound m → m.tables.pending.capacity ≤ pending.capacity + 1 → IsSound (set_aside m pending aside)
+  first_sound sound memory =
+      let pairs = subst (AllByRecursion IsPair) first sound.pairs in
+      let len : length m.tables.pending.items ≡ suc (length pending.items) = ap length first in
+      record {
+        separate = separate_in_order (arities_of m.tables.heaps.items) m.interface.items (pieces (net_of m))
+            (pieces (net_of (set_aside m pending aside))) first_order sound.separate;
+        pairs = pairs.1;
+        aside = subst (AllByRecursion IsPair) (sym put) (all_append IsPair m.aside.items (e ∷ []) sound.aside (pairs.0, tt));
+        names = sound.names;
+        symbols = sound.symbols;
+        registers = sound.registers;
+        spare = spare_fewer m.tables pending (omega arith) sound.spare;
+        counts = sound.counts;
+      }
+
+  -- nothing fires
+  pub first_ran : Ran p (net_of m) (net_of (set_aside m pending aside))
+  first_ran = record {
+    fired = [];
+    moments = [];
+    way = no_step (pieces (net_of m)) (pieces (net_of (set_aside m pending aside))) first_order;
+    places = same_places (net_of m) (net_of (set_aside m pending aside)) refl refl;
+    symbols = refl;
+    counted = sym (add-zero m.interactions);
+    counts = counted_none m.counts.items;
+    arities = refl;
+    interface = refl;
+    more = e ∷ [];
+    aside = put;
+    stuck = (stuck, tt);
+  }
 
 -- the registers begin with the agents without arguments
 pub first_registers : (n m : ℕ) (rs : List Word) → m ≡ n → rs ≡ constants n → take m rs ≡ constants m

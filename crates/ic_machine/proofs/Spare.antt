@@ -11,6 +11,7 @@ use Rattle.ic_machine.specs.declared.tables.Tables.{Tables}
 use Rattle.ic_machine.specs.Plan.{Planned, Plans}
 use Rattle.ic_machine.specs.inner.Firing.{AreSame, HasBlocks, HasRoom, IsGrown, SameSize, table}
 use Rattle.ic_machine.specs.inner.Pairs.{Passed}
+use Rattle.ic_machine.specs.inner.Queue.{Queued}
 use Rattle.ic_machine.specs.inner.Tables.{HasMemory, HasRoomFor, HasSpare}
 use Rattle.ic_machine.specs.lemmas.FiringKeeps.{all_of}
 use Rattle.ic_machine.proofs.Heaps.{same_at, set_at, table_set}
@@ -109,12 +110,12 @@ room_next hs n i b there all here s lt =
       | inr e ↦ subst (λ (x : Blocks). HasBlocks n x) (sym (table_other hs i s b e)) (all s e)
     ]
 
--- what is spare is there where less is pending
-pub spare_fewer : (t : Tables) (es : Vec Equation) → length es.items ≤ length t.pending.items
-    → vec_capacity es ≡ vec_capacity t.pending → HasSpare t → HasSpare (record t { pending = es })
-spare_fewer t es fewer memory h = λ some.
+-- what is spare is there where no less can be pending
+pub spare_fewer : (t : Tables) (es : Queued) → length es.items + t.pending.capacity ≤ es.capacity + length t.pending.items
+    → HasSpare t → HasSpare (record t { pending = es })
+spare_fewer t es room h = λ some.
     let r : HasRoomFor t.spare t = h some in
-    let enough : length t.pending.items + t.spare ≤ vec_capacity t.pending = r.pending in
+    let enough : length t.pending.items + t.spare ≤ t.pending.capacity = r.pending in
     record { names = r.names; few = r.few; pending = omega arith; heaps = r.heaps }
 
 -- a plan that makes no more has the memory that it needs
@@ -126,12 +127,12 @@ room_for_plan n p hs le all known =
     (λ m lt. blocks_fewer (length p.made) n (table hs m.symbol) le (all m.symbol lt)) known
 
 -- what is spare stays so where equations are set aside
-pub passed_spare : (p : Plans) (t : Tables) (es : Vec Equation) (us us' : List Equation)
-    → Passed p t.pending.items us es.items us' → vec_capacity es ≡ vec_capacity t.pending → HasSpare t
+pub passed_spare : (p : Plans) (t : Tables) (es : Queued) (us us' : List Equation)
+    → Passed p t.pending.items us es.items us' → es.capacity ≡ t.pending.capacity → HasSpare t
     → HasSpare (record t { pending = es })
 passed_spare p t es us us' h memory spare =
     let len : length t.pending.items ≡ length es.items + length h.rest = ap length h.before ∙ length-append es.items h.rest in
-    spare_fewer t es (omega arith) memory spare
+    spare_fewer t es (omega arith) spare
 
 pub same_on : (hs gs fs : List Blocks) → AreSame hs gs → AreSame gs fs → AreSame hs fs
 same_on [] [] [] f g = tt
@@ -147,14 +148,14 @@ same_on (x ∷ xs) (y ∷ ys) (z ∷ zs) f g =
 -- the memory that a plan needs is there still where there is more
 pub memory_kept : (p : Planned) (arguments : ℕ) (t u : Tables) → u.names.entries ≡ t.names.entries
     → t.names.capacity ≤ u.names.capacity → u.pending.items ≡ t.pending.items
-    → vec_capacity t.pending ≤ vec_capacity u.pending → u.registers ≡ t.registers → AreSame t.heaps.items u.heaps.items
+    → t.pending.capacity ≤ u.pending.capacity → u.registers ≡ t.registers → AreSame t.heaps.items u.heaps.items
     → HasMemory p arguments t → HasMemory p arguments u
 memory_kept p arguments t u names names_more pending pending_more registers same h =
     let name_count : length u.names.entries ≡ length t.names.entries = ap length names in
     let pending_count : length u.pending.items ≡ length t.pending.items = ap length pending in
     let name_room : length t.names.entries + p.names ≤ t.names.capacity = h.names in
     let few : length t.names.entries + p.names < 2 ^ 32 = h.few in
-    let pending_room : length t.pending.items + length p.links ≤ vec_capacity t.pending = h.pending in
+    let pending_room : length t.pending.items + length p.links ≤ t.pending.capacity = h.pending in
     record {
       names = omega arith;
       few = omega arith;

@@ -1,12 +1,9 @@
 -- Pairs that are taken.
 use Rattle.std.specs.Global.{Vec}
-use Rattle.std.proofs.Common.{◌≡◌, ℕ, ◌+◌, ◌-◌, ◌<◌, ◌≤◌, List, [], ◌∷◌, ◌++◌, Option, Some, Result, Ok, Err, OnOk, OnErr, length, map, slice_get, slice_index_or, ap, refl, sym, subst, ◌∙◌, append_assoc, arith}
-use Rattle.std.specs.List.{swap, swap_remove}
-use Rattle.std.specs.Option.{unwrap_or}
+use Rattle.std.proofs.Common.{◌≡◌, ℕ, zero, suc, ◌<◌, List, [], ◌∷◌, ◌++◌, Some, length, map, slice_get, ap, refl, sym, subst, ◌∙◌, append_assoc, arith}
 use Rattle.std.specs.List.Sorted.{IsPermutation}
 use Rattle.std.proofs.lemmas.List.{append-nil, append_cancel_right, map-append}
 use Rattle.std.proofs.lemmas.List.Sorted.{IsPermutation-append_right, IsPermutation-middle, IsPermutation-refl, IsPermutation-sym, IsPermutation-trans}
-use Rattle.std.proofs.lemmas.Option.{unwrap_or-slice_get}
 use Rattle.ic_arena.specs.Piece.{Piece}
 use Rattle.ic_arena.specs.Tables.{names_pieces}
 use Rattle.ic_machine.specs.declared.equation.Equation.{Equation}
@@ -14,58 +11,34 @@ use Rattle.ic_machine.specs.declared.machine.Machine.TheInside.{Inside}
 use Rattle.ic_machine.specs.declared.tables.Tables.{Tables}
 use Rattle.ic_machine.specs.declared.generation.Generation.{Generation}
 use Rattle.ic_machine.specs.Plan.{Planned, Plans, plan_at}
-use Rattle.ic_machine.specs.Net.{Net, equated_of, HasNext, IsActive, IsFull, IsStuck}
-use Rattle.ic_machine.specs.Generations.{Advances, Takes, TakesPair, beside, ended, fires, later, stays}
+use Rattle.ic_machine.specs.Net.{Net, equated_of, IsActive, IsStuck}
+use Rattle.ic_machine.specs.Generations.{Advances, Takes, TakesFirst, beside, ended, fires, later, stays}
 use Rattle.ic_machine.specs.Runs.{Ran}
 use Rattle.ic_machine.specs.Steps.{Steps, no_step}
 use Rattle.ic_machine.specs.inner.Firing.{heaps_pieces}
-use Rattle.ic_machine.specs.inner.Machine.{TakesLast, net_of}
-use Rattle.ic_machine.specs.inner.Pairs.{HasNumber, IsLast, Passed}
-use Rattle.ic_machine.specs.inner.Tables.{FiresBy, held}
-use Rattle.ic_machine.specs.lemmas.RunsOn.{ran_on, ran_on-fired}
+use Rattle.ic_machine.specs.inner.Machine.{net_of}
+use Rattle.ic_machine.specs.inner.Pairs.{HasNumber}
+use Rattle.ic_machine.specs.inner.Queue.{Queued}
+use Rattle.ic_machine.specs.inner.Tables.{FiresBy}
 use Rattle.ic_machine.specs.lemmas.StepsOn.{steps_to}
 use Rattle.ic_machine.specs.lemmas.GenerationsOn.{advances_beside}
 use Rattle.ic_machine.specs.lemmas.Orders.{to_front}
 use Rattle.ic_machine.proofs.Changed.{changed}
-use Rattle.ic_machine.proofs.Exchanged.{get_there, swapped}
-use Rattle.ic_machine.proofs.Running.{held_order, last_here}
-use Rattle.ic_machine.proofs.Sound.{passed_ran, set_aside}
+use Rattle.ic_machine.proofs.Running.{held_order}
+use Rattle.ic_machine.proofs.Sound.{set_aside}
 
 -- ---- lists
 
--- what is read at a place is there
-pub read_there : {X : Type 0} (xs : List X) (i : ℕ) (e : X) → i < length xs → e ≡ slice_index_or xs i e
-    → slice_get xs i ≡ Some e
-read_there {X} xs i e lt is =
-    let known = get_there xs i lt in
-    let read = sym (ap (λ (o : Option X). unwrap_or o e) known.1) ∙ unwrap_or-slice_get xs i e in
-    known.1 ∙ ap (λ (v : X). Some v) (read ∙ sym is)
-
--- what is read at the last place is the last
-pub last_read : (es : List Equation) (e : Equation) (n : ℕ) → n ≡ length es → 1 ≤ length es
-    → e ≡ slice_index_or es (n - 1) e → IsLast e es
-last_read es e n len some is =
-    let same : n - 1 ≡ length es - 1 = ap (λ (k : ℕ). k - 1) len in
-    (last_here es e (read_there es (length es - 1) e (omega arith)
-    (is ∙ ap (λ (k : ℕ). slice_index_or es k e) same))).0
+-- what is at a place
+pub get_there : {X : Type 0} (xs : List X) (i : ℕ) → i < length xs → (e : X) × (slice_get xs i ≡ Some e)
+get_there [] i h = absurd (omega arith)
+get_there (x ∷ xs) zero h = (x, refl)
+get_there (x ∷ xs) (suc i) h = get_there xs i (omega arith)
 
 -- a list without an element
 none_of : {X : Type 0} (xs : List X) → length xs ≡ 0 → xs ≡ []
 none_of [] h = refl
 none_of (x ∷ xs) h = absurd (omega arith)
-
--- two lists with a last element that are the same list
-pub same_last : {X : Type 0} (xs ys : List X) (x y : X) → xs ++ x ∷ [] ≡ ys ++ y ∷ [] → (xs ≡ ys) × (x ≡ y)
-same_last [] [] x y h = (refl, cc)
-same_last [] (z ∷ []) x y h = absurd (cc h)
-same_last [] (z ∷ (w ∷ ys)) x y h = absurd (cc h)
-same_last (v ∷ []) [] x y h = absurd (cc h)
-same_last (v ∷ (w ∷ xs)) [] x y h = absurd (cc h)
-same_last {X} (v ∷ xs) (z ∷ ys) x y h =
-    let tails : xs ++ x ∷ [] ≡ ys ++ y ∷ [] = cc in
-    let first : v ≡ z = cc in
-    let r = same_last xs ys x y tails in
-    (ap (λ (l : List X). v ∷ l) r.0 ∙ ap (λ (u : X). u ∷ ys) first, r.1)
 
 -- ---- what is taken
 
@@ -75,18 +48,17 @@ ran_none_fired p old new run same =
     let counted = run.counted in
     none_of run.fired (omega arith)
 
--- The last pending pair, which is stuck, is set aside.
-pub taken_aside : (p : Plans) (m : Inside) (pending aside : Vec Equation) (e : Equation)
-    (h : Passed p m.tables.pending.items m.aside.items pending.items aside.items) → IsStuck p e
-    → m.tables.pending.items ≡ pending.items ++ e ∷ [] → aside.items ≡ m.aside.items ++ e ∷ []
-    → TakesLast p (net_of m) (net_of (set_aside m pending aside))
-taken_aside p m pending aside e h stuck is put =
+-- The first pending pair, which is stuck, is set aside.
+pub taken_aside : (p : Plans) (m : Inside) (pending : Queued) (aside : Vec Equation) (e : Equation) → IsStuck p e
+    → m.tables.pending.items ≡ e ∷ pending.items → aside.items ≡ m.aside.items ++ e ∷ []
+    → Ran p (net_of m) (net_of (set_aside m pending aside)) → TakesFirst p (net_of m) (net_of (set_aside m pending aside))
+taken_aside p m pending aside e stuck is put run =
     let new : Net = net_of (set_aside m pending aside) in
-    let run = passed_ran p m pending aside h (net_of m) refl in
     let none = ran_none_fired p (net_of m) new run refl in
     record {
       pair = e;
-      last = record { front = pending.items; is = is };
+      rest = pending.items;
+      first = is;
       more = [];
       pending = sym (append-nil pending.items);
       ran = run;
@@ -112,11 +84,10 @@ taken_aside p m pending aside e h stuck is put =
 
 -- A pending pair fires in the tables.
 pub taken_fired : (p : Plans) (e : Equation) (i : ℕ) (m : Inside) (t : Tables) (k : ℕ) (counts : Vec ℕ)
-    (front more now later : List Equation) → FiresBy p e i m.tables t m.aside.items
-    → m.tables.pending.items ≡ front ++ e ∷ [] → t.pending.items ≡ front ++ more
+    (rest more now later : List Equation) → FiresBy p e i m.tables t rest m.aside.items → t.pending.items ≡ rest ++ more
     → Takes p (e ∷ now) now (i ∷ []) (beside later (net_of m)) (beside (later ++ more) (net_of (changed m t k counts)))
-taken_fired p e i m t k counts front more now later by is after =
-    let b = by.bare front more (later ++ m.aside.items) is after in
+taken_fired p e i m t k counts rest more now later by after =
+    let b = by.bare more (later ++ m.aside.items) after in
     let xs : List Piece = beside later (net_of m) in
     let ys : List Piece = beside (later ++ more) (net_of (changed m t k counts)) in
     let l : List Piece = map equated_of later in
@@ -149,48 +120,6 @@ same_held n h n' h' es es' same is =
     append_cancel_right (n' ++ h') (n ++ h) tail
     (append_assoc n' h' tail ∙ (ap (λ (l : List Equation). n' ++ (h' ++ (map equated_of l ++ []))) (sym same)
     ∙ (is ∙ sym (append_assoc n h tail))))
-
--- What is true where there is an answer leads to what is true then.
-pub on_ok : {T E : Type 0} {A B : Type 0} (r : Result T E) → (A → B) → OnOk r A → OnOk r B
-on_ok (Ok x) f a = f a
-on_ok (Err y) f a = a
-
-pub on_err : {T E : Type 0} {A B : Type 0} (r : Result T E) → (A → B) → OnErr r A → OnErr r B
-on_err (Ok x) f a = a
-on_err (Err y) f a = f a
-
--- A pending pair and the last one change places, and it is taken.
-pub taken_pair : (p : Plans) (place : ℕ) (old mid new : Net) (e : Equation) → slice_get old.pending place ≡ Some e
-    → mid.pending ≡ swap old.pending place (length old.pending - 1) → mid ≡ record old { pending = mid.pending }
-    → Ran p old mid → TakesLast p mid new → TakesPair p place old new
-taken_pair p place old mid new e there order same first t =
-    let rest : List Equation = swap_remove old.pending place e in
-    let apart = same_last t.last.front rest t.pair e (sym t.last.is ∙ (order ∙ swapped old.pending place e there)) in
-    let run = ran_on p old mid new first t.ran in
-    let fired : run.fired ≡ t.ran.fired = ran_on-fired p old mid new first t.ran
-    ∙ ap (λ (l : List ℕ). l ++ t.ran.fired) (ran_none_fired p old mid first (ap (λ (n : Net). n.interactions) same)) in
-    record {
-      pair = e;
-      there = there;
-      more = t.more;
-      pending = t.pending ∙ ap (λ (l : List Equation). l ++ t.more) apart.0;
-      ran = run;
-      takes = λ now later h. subst (λ (is : List ℕ). Takes p (e ∷ now) now is (beside later old) (beside (later ++ t.more) new)) (sym fired)
-          (subst (λ (v : Equation). Takes p (v ∷ now) now t.ran.fired (beside later old) (beside (later ++ t.more) new)) apart.1
-          (subst (λ (n : Net). Takes p (t.pair ∷ now) now t.ran.fired (beside later n) (beside (later ++ t.more) new)) same
-          (t.takes now later (subst (λ (l : List Equation). IsPermutation l (now ++ later)) (sym apart.0) h))));
-    }
-
--- The pair that can't fire, since a table is full.
-pub full_pair : (p : Plans) (place : ℕ) (old mid new : Net) (e : Equation) → slice_get old.pending place ≡ Some e
-    → mid.pending ≡ swap old.pending place (length old.pending - 1) → new ≡ record mid { pending = new.pending }
-    → (next : HasNext p mid.pending) → IsFull next.active.plan mid
-    → (active : IsActive p e) × IsFull active.plan new
-full_pair p place old mid new e there order same next full =
-    let apart = same_last next.front (swap_remove old.pending place e) next.pair e
-    (sym next.last ∙ (order ∙ swapped old.pending place e there)) in
-    subst (λ (v : Equation). (active : IsActive p v) × IsFull active.plan new) apart.1
-    (next.active, subst (λ (n : Net). IsFull next.active.plan n) (sym same) full)
 
 -- A pair whose plan has a number is active.
 pub numbered_active : (p : Plans) (e : Equation) (i : ℕ) → HasNumber p e i → IsActive p e

@@ -1,6 +1,5 @@
 -- Pairs that are taken one by one, whichever they are, and generations of them.
-use Rattle.std.specs.Prelude.{◌≡◌, ℕ, ◌+◌, ◌-◌, ◌≤◌, List, [], ◌∷◌, ◌++◌, Some, length, map, take, drop, slice_get, nat_lt, if◌then◌else◌, IsPermutation}
-use Rattle.std.specs.List.{swap_remove}
+use Rattle.std.specs.Prelude.{◌≡◌, ℕ, ◌≤◌, List, [], ◌∷◌, ◌++◌, length, map, take, drop, IsPermutation}
 use Rattle.ic_arena.specs.Word.{agent_word}
 use Rattle.ic_arena.specs.Piece.{Piece}
 use Rattle.ic_machine.specs.declared.equation.Equation.{Equation}
@@ -31,35 +30,29 @@ pub data Takes (p : Plans) : (now left : List Equation) → List ℕ → (xs ys 
 abbrev pub beside : List Equation → Net → List Piece
 beside later n = map equated_of later ++ (map equated_of n.aside ++ n.places)
 
--- The pair at a place of those that are pending is taken. The last one stands in its place then, and those that come of it stand
--- after all others. All of these may be of the present generation or of a later one.
-pub record TakesPair (p : Plans) (place : ℕ) (old new : Net) : Type 0 where
+-- The first pending pair is taken, and those that come of it stand after all others. All of these may be of the present
+-- generation or of a later one.
+pub record TakesFirst (p : Plans) (old new : Net) : Type 0 where
   pub pair : Equation
-  pub there : slice_get old.pending place ≡ Some pair
+  pub rest : List Equation
+  pub first : old.pending ≡ pair ∷ rest
   pub more : List Equation
-  pub pending : new.pending ≡ swap_remove old.pending place pair ++ more
+  pub pending : new.pending ≡ rest ++ more
   pub ran : Ran p old new
-  pub takes : (now later : List Equation) → IsPermutation (swap_remove old.pending place pair) (now ++ later)
+  pub takes : (now later : List Equation) → IsPermutation rest (now ++ later)
       → Takes p (pair ∷ now) now ran.fired (beside later old) (beside (later ++ more) new)
 
 -- the pairs of a generation that are still to be taken, of those that are pending
 abbrev pub present : Generation → List Equation → List Equation
-present g es = drop g.place (take g.end es)
+present g es = take g.end es
 
 -- the others
 abbrev pub later : Generation → List Equation → List Equation
-later g es = take g.place es ++ drop g.end es
+later g es = drop g.end es
 
 -- The generation is some of those that are pending.
-pub record IsWithin (g : Generation) (es : List Equation) : Type 0 where
-  pub place : g.place ≤ g.end
-  pub end : g.end ≤ length es
-
--- What is left of a generation as the pair at its place is taken, one of so many that are pending: the one that stands there
--- then is of the next generation, if one was the last.
-abbrev pub next_of : ℕ → Generation → Generation
-next_of pending g = if nat_lt g.end pending then record { place = g.place + 1; end = g.end }
-    else record { place = g.place; end = g.end - 1 }
+abbrev pub IsWithin : Generation → List Equation → Type 0
+IsWithin g es = g.end ≤ length es
 
 -- Pairs of a generation are taken, each once, until the second generation is left of it. What comes of them is of the next one.
 pub record Advances (p : Plans) (g h : Generation) (old new : Net) : Type 0 where

@@ -3,6 +3,7 @@ pub mod Linking
 pub mod Sweeping
 pub mod Firing
 pub mod Pairs
+pub mod Queue
 pub mod PairIndex
 pub mod Tables
 pub mod Machine

@@ -1,49 +1,26 @@
 //! Pending pairs that are taken in generations.
 
-ghost use Rattle.std.specs.Prelude.{◌≡◌, ℕ, ◌+◌, ◌^◌, ◌<◌, ◌≤◌, true, false, Ok, Err, Contains, length, IfOk};
+ghost use Rattle.std.specs.Prelude.{◌≡◌, ◌+◌, ◌^◌, ◌<◌, ◌≤◌, true, false, Ok, Contains, length};
 ghost use Rattle.std.specs.List.{AllByRecursion};
 ghost use Rattle.ic_machine.specs.declared.equation.Equation.{Equation as AnyEquation};
-ghost use Rattle.ic_machine.specs.Generations.{Advances, IsWithin, next_of};
+ghost use Rattle.ic_machine.specs.Generations.{Advances, IsWithin};
 ghost use Rattle.ic_machine.specs.Net.{IsActive, IsStuck};
 
 use crate::machine::{Machine, MachineFault};
 use crate::plan::Program;
 
-/// The pairs of a generation that are still to be taken: of those that are pending, those from a place up to an end.
+/// The pairs of a generation that are still to be taken: of those that are pending, the first ones up to an end.
 #[derive(Clone, Copy, Debug, PartialEq, Eq)]
 pub struct Generation {
-    pub place: usize,
     pub end: usize,
-}
-
-impl Generation {
-    /// What is left of the generation as the pair at its place is taken, one of so many that are pending.
-    fn next(self, pending: usize) -> Generation
-        requires { self.place < self.end }
-        ensures { result ≡ next_of pending self }
-    {
-        let Generation { place, end } = self;
-        if end < pending {
-            Generation {
-                place: place + 1,
-                end,
-            }
-        } else {
-            Generation {
-                place,
-                end: end - 1,
-            }
-        }
-    }
 }
 
 impl Machine {
     /// The generation of all pairs that are pending.
     pub fn generation(&self) -> Generation
-        ensures { result ≡ record { place = 0; end = length self.now.pending } }
+        ensures { result ≡ record { end = length self.now.pending } }
     {
         Generation {
-            place: 0,
             end: self.pending().len(),
         }
     }
@@ -62,18 +39,20 @@ impl Machine {
         ensures advances { Advances program.now generation.old generation.new self.old self.new }
         ensures within { IsWithin generation.new self.new.pending }
         ensures at_most { self.new.interactions ≤ self.old.interactions + steps }
-        ensures over { result ≡ Ok true → generation.new.place ≡ generation.new.end }
+        ensures over { result ≡ Ok true → generation.new.end ≡ 0 }
         ensures all { result ≡ Ok false
             → self.new.interactions ≡ self.old.interactions + steps }
-        ensures left { result ≡ Ok false → generation.new.place < generation.new.end }
+        ensures left { result ≡ Ok false → 0 < generation.new.end }
     {
         let mut left = steps;
-        while generation.place < generation.end {
+        while generation.end > 0 {
             if left == 0 {
                 return Ok(false);
             }
-            let next = generation.next(self.pending().len());
-            if self.take_pair(program, generation.place)? {
+            let next = Generation {
+                end: generation.end - 1,
+            };
+            if self.take_first(program)? {
                 left -= 1;
             }
             *generation = next;
@@ -87,7 +66,7 @@ impl Machine {
             × IsActive program.now e }
         ensures none { result ≡ false → AllByRecursion (IsStuck program.now) self.now.pending }
     {
-        for pair in &self.tables.pending {
+        for pair in self.tables.pending.as_slice() {
             if program.number_for(*pair).is_some() {
                 return true;
             }

@@ -15,6 +15,7 @@ mod moving;
 mod pairs;
 mod places;
 mod plan;
+mod queue;
 mod sweeping;
 mod tables;
 mod telling;

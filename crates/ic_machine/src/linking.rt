@@ -1,6 +1,6 @@
 //! Equations that are linked into the net.
 
-ghost use Rattle.std.specs.Prelude.{◌≡◌, ◌+◌, ◌<◌, ◌≤◌, List, [], ◌∷◌, ◌++◌, map, length, sum_by, vec_len, vec_capacity, IfSome, IfNone};
+ghost use Rattle.std.specs.Prelude.{◌≡◌, ◌+◌, ◌<◌, ◌≤◌, List, [], ◌∷◌, ◌++◌, map, length, sum_by, IfSome, IfNone};
 ghost use Rattle.std.specs.List.{AllByRecursion};
 ghost use Rattle.ic_arena.specs.Piece.{Piece, room};
 ghost use Rattle.ic_arena.specs.Tables.{names_pieces};
@@ -12,17 +12,13 @@ ghost use Rattle.ic_machine.specs.inner.Linking.{AreNamed, AreLinks, IsEnd, IsTa
 
 use crate::equation::Equation;
 use crate::plan::Link;
+use crate::queue::Queue;
 use ic_arena::{IDLE, NAME, Names, Word};
 
 /// Links equations whose sides are in registers.
-pub(crate) fn link_each(
-    names: &mut Names,
-    pending: &mut Vec<Equation>,
-    links: &[Link],
-    registers: &[Word],
-)
+pub(crate) fn link_each(names: &mut Names, pending: &mut Queue, links: &[Link], registers: &[Word])
     requires links { AreLinks links.now registers.now names.old.entries }
-    requires room { vec_len pending.old + length links.now ≤ vec_capacity pending.old }
+    requires room { length pending.old.items + length links.now ≤ pending.old.capacity }
     ensures steps { (p : Plans) (rest : List Piece) → Steps p []
         (map (linked registers.now) links.now
         ++ (names_pieces 0 names.old.entries ++ (map equated_of pending.old.items ++ rest)))
@@ -33,8 +29,8 @@ pub(crate) fn link_each(
         (map (linked registers.now) links.now ++ (names_pieces 0 names.old.entries ++ rest))
         (names_pieces 0 names.new.entries ++ (map equated_of more ++ rest)) }
     ensures head { HaveHead links.now registers.now pending.old.items pending.new.items }
-    ensures len { vec_len pending.new ≤ vec_len pending.old + length links.now }
-    ensures capacity { vec_capacity pending.new ≡ vec_capacity pending.old }
+    ensures len { length pending.new.items ≤ length pending.old.items + length links.now }
+    ensures capacity { pending.new.capacity ≡ pending.old.capacity }
     ensures names { length names.new.entries ≡ length names.old.entries }
     ensures memory { names.new.capacity ≡ names.old.capacity }
 {
@@ -49,9 +45,9 @@ pub(crate) fn link_each(
 
 /// Links an equation: if a word waits for a side that is a name, it takes the place of that, as long as one does. Then one
 /// side waits for the other, if that is a name. Two sides that are no names are pending.
-pub(crate) fn link(names: &mut Names, pending: &mut Vec<Equation>, equation: Equation)
+pub(crate) fn link(names: &mut Names, pending: &mut Queue, equation: Equation)
     requires named { AreNamed equation.left equation.right names.old.entries }
-    requires room { vec_len pending.old < vec_capacity pending.old }
+    requires room { length pending.old.items < pending.old.capacity }
     ensures steps { (p : Plans) (rest : List Piece) → Steps p []
         (equated_of equation
         ∷ (names_pieces 0 names.old.entries ++ (map equated_of pending.old.items ++ rest)))
@@ -62,8 +58,8 @@ pub(crate) fn link(names: &mut Names, pending: &mut Vec<Equation>, equation: Equ
         (equated_of equation ∷ (names_pieces 0 names.old.entries ++ rest))
         (names_pieces 0 names.new.entries ++ (map equated_of more ++ rest)) }
     ensures pair { IsPair equation → pending.new.items ≡ pending.old.items ++ equation ∷ [] }
-    ensures len { vec_len pending.new ≤ vec_len pending.old + 1 }
-    ensures capacity { vec_capacity pending.new ≡ vec_capacity pending.old }
+    ensures len { length pending.new.items ≤ length pending.old.items + 1 }
+    ensures capacity { pending.new.capacity ≡ pending.old.capacity }
     ensures names { length names.new.entries ≡ length names.old.entries }
     ensures memory { names.new.capacity ≡ names.old.capacity }
 {
@@ -102,11 +98,11 @@ fn taken(names: &mut Names, word: Word) -> Option<Word>
 }
 
 /// Lets one side of an equation wait for the other, if that is a name. Nothing waits for either of them.
-fn settle(names: &mut Names, pending: &mut Vec<Equation>, equation: Equation)
+fn settle(names: &mut Names, pending: &mut Queue, equation: Equation)
     requires named { AreNamed equation.left equation.right names.old.entries }
     requires left { IsEnd equation.left names.old.entries }
     requires right { IsEnd equation.right names.old.entries }
-    requires room { vec_len pending.old < vec_capacity pending.old }
+    requires room { length pending.old.items < pending.old.capacity }
     ensures steps { (p : Plans) (rest : List Piece) → Steps p []
         (equated_of equation
         ∷ (names_pieces 0 names.old.entries ++ (map equated_of pending.old.items ++ rest)))
@@ -117,8 +113,8 @@ fn settle(names: &mut Names, pending: &mut Vec<Equation>, equation: Equation)
         (equated_of equation ∷ (names_pieces 0 names.old.entries ++ rest))
         (names_pieces 0 names.new.entries ++ (map equated_of more ++ rest)) }
     ensures pair { IsPair equation → pending.new.items ≡ pending.old.items ++ equation ∷ [] }
-    ensures len { vec_len pending.new ≤ vec_len pending.old + 1 }
-    ensures capacity { vec_capacity pending.new ≡ vec_capacity pending.old }
+    ensures len { length pending.new.items ≤ length pending.old.items + 1 }
+    ensures capacity { pending.new.capacity ≡ pending.old.capacity }
     ensures names { length names.new.entries ≡ length names.old.entries }
     ensures memory { names.new.capacity ≡ names.old.capacity }
 {

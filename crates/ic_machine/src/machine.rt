@@ -1,7 +1,7 @@
 //! The machine.
 
-ghost use Rattle.std.specs.Prelude.{◌≡◌, ◌≢◌, ℕ, ◌+◌, ◌-◌, ◌^◌, ◌<◌, ◌≤◌, List, [], ◌∷◌, ◌++◌, true, false, Ok, Err, Contains, length, map, slice_get, slice_index_or, sum, sum_by, vec_capacity, IfOk, OnErr, OnOk, Some, IfSome, IfNone, MatchOption};
-ghost use Rattle.std.specs.List.{swap, AllByRecursion};
+ghost use Rattle.std.specs.Prelude.{◌≡◌, ◌≢◌, ℕ, ◌+◌, ◌^◌, ◌<◌, ◌≤◌, List, [], ◌∷◌, ◌++◌, true, false, Ok, Err, Contains, length, map, slice_index_or, sum, sum_by, IfOk, OnErr, OnOk, IfSome, IfNone, MatchOption};
+ghost use Rattle.std.specs.List.{AllByRecursion};
 ghost use Rattle.ic_arena.specs.declared.word.Word.{Word as AnyWord};
 ghost use Rattle.ic_arena.specs.declared.word.TheConstants.{GIVEN, NAME};
 ghost use Rattle.ic_arena.specs.Word.{name_word};
@@ -11,16 +11,16 @@ ghost use Rattle.ic_machine.specs.Plan.{Plans, planned};
 ghost use Rattle.ic_machine.specs.Separate.{IsSeparate};
 ghost use Rattle.ic_machine.specs.Runs.{IsStart, Starts, Counted, Ran};
 ghost use Rattle.ic_machine.specs.Net.{pieces, equations_left, in_use, ArePutThrough, HasNext, IsActive, IsStuck, IsAtPlace, IsFull, IsPair};
-ghost use Rattle.ic_machine.specs.Generations.{beside, TakesPair};
+ghost use Rattle.ic_machine.specs.Generations.{beside, TakesFirst};
 ghost use Rattle.ic_machine.specs.declared.equation.Equation.{Equation as AnyEquation};
 ghost use Rattle.ic_machine.specs.Steps.{Steps};
-ghost use Rattle.ic_machine.specs.inner.Machine.{TakesLast};
 ghost use Rattle.ic_machine.specs.inner.Pairs.{HasNumber, IsLast, Passed};
 
 use crate::equation::Equation;
 use crate::firing::push_given;
 use crate::places::{Parts, Places, count_places};
 use crate::plan::{Plan, Program};
+use crate::queue::Queue;
 use crate::sweeping::sweep;
 use crate::tables::Tables;
 use ic_arena::{IDLE, Word};
@@ -192,60 +192,20 @@ impl Machine {
         let Some((pair, number)) = found else {
             return Ok(false);
         };
-        self.tables.fire(pair, program.plan_at(number))?;
+        self.tables.fire_last(pair, program.plan_at(number))?;
         self.interactions += 1;
         count(&mut self.counts, number);
         Ok(true)
     }
 
-    /// Takes the pair at a place of those that are pending: it fires if it has a plan, and is set aside if it has none. The last
-    /// one stands in its place then. Where it is broken off, the net is that before.
-    pub fn take_pair(&mut self, program: &Program, place: usize) -> Result<bool, MachineFault>
-        requires arities { self.old.arities ≡ program.now.arities }
-        requires few { self.old.interactions + 1 < 2 ^ 64 }
-        requires there { place < length self.old.pending }
-        ensures ran { Ran program.now self.old self.new }
-        ensures taken { OnOk result (TakesPair program.now place self.old self.new) }
-        ensures fired { result ≡ Ok true
-            → self.new.interactions ≡ self.old.interactions + 1 }
-        ensures aside { result ≡ Ok false → self.new.interactions ≡ self.old.interactions }
-        ensures err { OnErr result (self.new.interactions ≡ self.old.interactions) }
-        ensures same { OnErr result (self.new.pending ≡ self.old.pending) }
-        ensures held { OnErr result ((later : List AnyEquation)
-            → beside later self.new ≡ beside later self.old) }
-        ensures separate { IsSeparate self.new.arities self.new.interface (pieces self.new) }
-        ensures limit { result ≡ Err MachineFault.Limit → (pair : Equation)
-            × (slice_get self.old.pending place ≡ Some pair)
-            × ((active : IsActive program.now pair) × IsFull active.plan self.new) }
-    {
-        self.exchange(place);
-        let taken = self.take_last(program);
-        if taken.is_err() {
-            self.exchange(place);
-        }
-        taken
-    }
-
-    /// Lets a pending pair and the last one change places.
-    fn exchange(&mut self, place: usize)
-        requires { place < length self.old.pending }
-        ensures pending { self.new.pending
-            ≡ swap self.old.pending place (length self.old.pending - 1) }
-        ensures same { self.new ≡ record self.old { pending = self.new.pending } }
-        ensures ran { (p : Plans) → Ran p self.old self.new }
-        ensures separate { IsSeparate self.new.arities self.new.interface (pieces self.new) }
-    {
-        let last = self.tables.pending.len() - 1;
-        self.tables.pending.swap(place, last);
-    }
-
-    /// Takes the last pending pair: it fires if it has a plan, and is set aside if it has none.
-    fn take_last(&mut self, program: &Program) -> Result<bool, MachineFault>
+    /// Takes the first pending pair: it fires if it has a plan, and is set aside if it has none. Those that come of it stand after
+    /// all others. Where it is broken off, the net is that before.
+    pub fn take_first(&mut self, program: &Program) -> Result<bool, MachineFault>
         requires arities { self.old.arities ≡ program.now.arities }
         requires few { self.old.interactions + 1 < 2 ^ 64 }
         requires some { 1 ≤ length self.old.pending }
         ensures ran { Ran program.now self.old self.new }
-        ensures taken { OnOk result (TakesLast program.now self.old self.new) }
+        ensures taken { OnOk result (TakesFirst program.now self.old self.new) }
         ensures fired { result ≡ Ok true
             → self.new.interactions ≡ self.old.interactions + 1 }
         ensures aside { result ≡ Ok false → self.new.interactions ≡ self.old.interactions }
@@ -254,15 +214,17 @@ impl Machine {
         ensures held { OnErr result ((later : List AnyEquation)
             → beside later self.new ≡ beside later self.old) }
         ensures separate { IsSeparate self.new.arities self.new.interface (pieces self.new) }
-        ensures limit { result ≡ Err MachineFault.Limit
-            → (next : HasNext program.now self.new.pending) × IsFull next.active.plan self.new }
+        ensures limit { result ≡ Err MachineFault.Limit → (pair : Equation) × (rest : List Equation)
+            × (self.old.pending ≡ pair ∷ rest)
+            × ((active : IsActive program.now pair) × IsFull active.plan self.new) }
     {
-        let pair = self.tables.pending[self.tables.pending.len() - 1];
+        let pair = self.tables.pending.first();
         let Some(number) = program.number_for(pair) else {
-            set_aside(pair, &mut self.tables.pending, &mut self.aside)?;
+            set_aside(pair, &mut self.aside)?;
+            self.tables.pending.take_first();
             return Ok(false);
         };
-        self.tables.fire(pair, program.plan_at(number))?;
+        self.tables.fire_first(pair, program.plan_at(number))?;
         self.interactions += 1;
         count(&mut self.counts, number);
         Ok(true)
@@ -423,7 +385,7 @@ impl Machine {
         let tables = self.tables;
         Parts {
             interface: self.interface,
-            pending: tables.pending,
+            pending: tables.pending.into_vec(),
             aside: self.aside,
             places: Places::from_tables(tables.names, tables.heaps),
             counts: self.counts,
@@ -435,11 +397,11 @@ impl Machine {
 #[inline(always)]
 fn find_plan(
     program: &Program,
-    pending: &mut Vec<Equation>,
+    pending: &mut Queue,
     aside: &mut Vec<Equation>,
 ) -> Result<Option<(Equation, u32)>, MachineFault>
     requires { AllByRecursion IsPair pending.old.items }
-    ensures memory { vec_capacity pending.new ≡ vec_capacity pending.old }
+    ensures memory { pending.new.capacity ≡ pending.old.capacity }
     ensures passed { Passed program.now
         pending.old.items aside.old.items pending.new.items aside.new.items }
     ensures found { IfOk result (λ o. MatchOption o (pending.new.items ≡ [])
@@ -448,7 +410,6 @@ fn find_plan(
     ensures broken { OnErr result (pending.new.items ≢ []) }
 {
     while let Some(pair) = pending.last() {
-        let pair = *pair;
         if let Some(number) = program.number_for(pair) {
             return Ok(Some((pair, number)));
         }
@@ -460,26 +421,15 @@ fn find_plan(
     Ok(None)
 }
 
-/// Sets the last pending pair aside, which has no plan.
-fn set_aside(
-    pair: Equation,
-    pending: &mut Vec<Equation>,
-    aside: &mut Vec<Equation>,
-) -> Result<(), MachineFault>
-    requires { IsLast pair pending.old.items }
-    ensures memory { vec_capacity pending.new ≡ vec_capacity pending.old }
-    ensures passed { OnOk result ((p : Plans) → IsStuck p pair → Passed p
-        pending.old.items aside.old.items pending.new.items aside.new.items) }
-    ensures left { OnOk result (pending.old.items ≡ pending.new.items ++ pair ∷ []) }
+/// Sets a pair aside.
+fn set_aside(pair: Equation, aside: &mut Vec<Equation>) -> Result<(), MachineFault>
     ensures aside { OnOk result (aside.new.items ≡ aside.old.items ++ pair ∷ []) }
-    ensures same { OnErr result (pending.new ≡ pending.old) }
     ensures none { OnErr result (aside.new.items ≡ aside.old.items) }
     ensures limit { result ≢ Err MachineFault.Limit }
 {
     if aside.push(pair).is_err() {
         return Err(MachineFault::Memory);
     }
-    pending.pop();
     Ok(())
 }
 

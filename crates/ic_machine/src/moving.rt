@@ -19,6 +19,7 @@ use crate::equation::Equation;
 use crate::firing::{MAX_ENTRIES, take};
 use crate::machine::Machine;
 use crate::places::turn;
+use crate::queue::Queue;
 use crate::tables::Tables;
 use ic_arena::{FREE, GIVEN, Heap, IDLE, NAME, Names, Word};
 use std::alloc::{AllocError, Global};
@@ -71,7 +72,7 @@ impl Machine {
         self.tables.spare = 0;
         let rest = self.tables.pending.split_off(pairs)?;
         let given = replace(&mut self.tables.pending, rest);
-        pack_each(&mut self.tables, &given, borders, parcel)?;
+        pack_each(&mut self.tables, given.as_slice(), borders, parcel)?;
         Ok(())
     }
 
@@ -131,9 +132,16 @@ impl Machine {
     {
         self.tables.spare = 0;
         let cuts = borders.cuts(alloc)?;
-        let pending = replace(&mut self.tables.pending, Vec::new(alloc));
+        let pending = replace(&mut self.tables.pending, Queue::new(alloc));
         let aside = replace(&mut self.aside, Vec::new(alloc));
-        give_tables(&mut self.tables, &cuts, &pending, &aside, borders, parcel)?;
+        give_tables(
+            &mut self.tables,
+            &cuts,
+            pending.as_slice(),
+            &aside,
+            borders,
+            parcel,
+        )?;
         Ok(())
     }
 }

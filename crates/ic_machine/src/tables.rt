@@ -1,6 +1,6 @@
 //! The tables of a machine.
 
-ghost use Rattle.std.specs.Prelude.{◌≡◌, ℕ, ◌+◌, ◌-◌, ◌^◌, ◌<◌, ◌≤◌, List, [], ◌∷◌, ◌++◌, Some, Err, map, length, take, slice_get, vec_len, vec_capacity, OnOk, OnErr, IfOk};
+ghost use Rattle.std.specs.Prelude.{◌≡◌, ℕ, ◌+◌, ◌-◌, ◌^◌, ◌<◌, ◌≤◌, List, [], ◌∷◌, ◌++◌, Some, Err, map, length, take, slice_get, OnOk, OnErr, IfOk};
 ghost use Rattle.std.specs.List.{AllByRecursion};
 ghost use Rattle.ic_arena.specs.declared.word.TheConstants.{GIVEN};
 ghost use Rattle.ic_machine.specs.Net.{equated_of, IsPair};
@@ -9,13 +9,14 @@ ghost use Rattle.ic_machine.specs.Runs.{HaveHead};
 ghost use Rattle.ic_machine.specs.Separate.{IsSeparate};
 ghost use Rattle.ic_machine.specs.inner.Firing.{heaps_pieces, arities_of, AreSame, table};
 ghost use Rattle.ic_machine.specs.inner.Linking.{Pushed};
-ghost use Rattle.ic_machine.specs.inner.Pairs.{CanFire, IsLast};
+ghost use Rattle.ic_machine.specs.inner.Pairs.{CanFire, IsFirst, IsLast};
 
 use crate::equation::Equation;
 use crate::firing::{MAX_ENTRIES, make_agents, open_names, reserve_blocks, reserve_each, take};
 use crate::linking::link_each;
 use crate::machine::MachineFault;
 use crate::plan::Plan;
+use crate::queue::Queue;
 use ic_arena::{Heap, Names, Word};
 use std::alloc::{AllocError, Global};
 
@@ -30,14 +31,14 @@ const SPARE_SYMBOLS: usize = 1_024;
 pub(crate) struct Tables {
     pub(crate) names: Names,
     pub(crate) heaps: Vec<Heap>,
-    pub(crate) pending: Vec<Equation>,
+    pub(crate) pending: Queue,
     pub(crate) registers: Vec<Word>,
     /// So many names, links, and agents of each symbol can be made with the memory that is there.
     pub(crate) spare: usize,
 }
 
 impl Tables {
-    ghost use Rattle.ic_machine.specs.inner.Tables.{held, size_at, size_of, HasMemory, HasRoomFor, HasSpare, IsReady, IsMade, IsNumbered, IsTooMuch, FiresBy};
+    ghost use Rattle.ic_machine.specs.inner.Tables.{arguments_of, held, size_at, size_of, HasMemory, HasRoomFor, HasSpare, IsReady, IsMade, IsNumbered, IsTooMuch, FiresBy};
 
     /// Tables of nothing, for symbols of these arities. The registers hold the agents without arguments.
     pub(crate) fn new(alloc: Global, arities: &[u32]) -> Result<Tables, AllocError>
@@ -62,7 +63,7 @@ impl Tables {
         Ok(Tables {
             names: Names::new(alloc),
             heaps,
-            pending: Vec::new(alloc),
+            pending: Queue::new(alloc),
             registers,
             spare: 0,
         })
@@ -106,7 +107,7 @@ impl Tables {
         ensures more_names { self.old.names.capacity ≤ self.new.names.capacity }
         ensures heaps { AreSame self.old.heaps.items self.new.heaps.items }
         ensures pending { self.new.pending.items ≡ self.old.pending.items }
-        ensures more_pending { vec_capacity self.old.pending ≤ vec_capacity self.new.pending }
+        ensures more_pending { self.old.pending.capacity ≤ self.new.pending.capacity }
         ensures registers { self.new.registers ≡ self.old.registers }
         ensures room { 1 ≤ result → HasRoomFor (result + (size + links)) self.new }
     {
@@ -187,7 +188,7 @@ impl Tables {
     }
 
     /// Fires the last pending pair. Where memory is refused, it is pending as before.
-    pub(crate) fn fire(&mut self, pair: Equation, plan: &Plan) -> Result<(), MachineFault>
+    pub(crate) fn fire_last(&mut self, pair: Equation, plan: &Plan) -> Result<(), MachineFault>
         requires few { length self.old.names.entries < 2 ^ 32 }
         requires symbols { length self.old.heaps.items < GIVEN }
         requires registers { take (length self.old.heaps.items) self.old.registers.items
@@ -197,16 +198,17 @@ impl Tables {
         requires separate { IsSeparate (arities_of self.old.heaps.items) [] (held self.old []) }
         requires spare { HasSpare self.old }
         ensures spare { HasSpare self.new }
-        ensures fires { OnOk result ((p : Plans) (i left right : ℕ) (rest : List Equation)
+        ensures fires { OnOk result ((p : Plans) (i left right : ℕ) (others rest : List Equation)
             → pair.left.tag ≡ left + 1 → pair.right.tag ≡ right + 1
             → p.arities ≡ arities_of self.old.heaps.items
             → IsNumbered p i left right (planned plan.now)
             → AllByRecursion IsPair self.old.pending.items → AllByRecursion IsPair rest
-            → FiresBy p pair i self.old self.new rest) }
+            → self.old.pending.items ≡ others ++ pair ∷ []
+            → FiresBy p pair i self.old self.new others rest) }
         ensures pairs { AllByRecursion IsPair self.old.pending.items
             → AllByRecursion IsPair self.new.pending.items }
-        ensures pushed { OnOk result ((front : List Equation)
-            → self.old.pending.items ≡ front ++ pair ∷ [] → Pushed front self.new.pending.items) }
+        ensures pushed { OnOk result ((others : List Equation)
+            → self.old.pending.items ≡ others ++ pair ∷ [] → Pushed others self.new.pending.items) }
         ensures pending { OnErr result (self.new.pending.items ≡ self.old.pending.items) }
         ensures same { OnErr result ((rest : List Equation)
             → held self.new (map equated_of rest) ≡ held self.old (map equated_of rest)) }
@@ -218,14 +220,93 @@ impl Tables {
         ensures limit { result ≡ Err MachineFault.Limit
             → IsTooMuch (planned plan.now) (length self.new.names.entries) self.new.heaps.items }
     {
-        let left = &self.heaps[pair.left.tag as usize - 1];
-        let right = &self.heaps[pair.right.tag as usize - 1];
-        let arguments = left.arity() as usize + right.arity() as usize;
+        let arguments = self.arguments(pair);
         self.prepare(plan, arguments)?;
         self.pending.pop();
+        self.fire(pair, plan);
+        Ok(())
+    }
+
+    /// Fires the first pending pair. Where memory is refused, it is pending as before.
+    pub(crate) fn fire_first(&mut self, pair: Equation, plan: &Plan) -> Result<(), MachineFault>
+        requires few { length self.old.names.entries < 2 ^ 32 }
+        requires symbols { length self.old.heaps.items < GIVEN }
+        requires registers { take (length self.old.heaps.items) self.old.registers.items
+            ≡ constants (length self.old.heaps.items) }
+        requires first { IsFirst pair self.old.pending.items }
+        requires plan { CanFire (arities_of self.old.heaps.items) pair (planned plan.now) }
+        requires separate { IsSeparate (arities_of self.old.heaps.items) [] (held self.old []) }
+        requires spare { HasSpare self.old }
+        ensures spare { HasSpare self.new }
+        ensures fires { OnOk result ((p : Plans) (i left right : ℕ) (others rest : List Equation)
+            → pair.left.tag ≡ left + 1 → pair.right.tag ≡ right + 1
+            → p.arities ≡ arities_of self.old.heaps.items
+            → IsNumbered p i left right (planned plan.now)
+            → AllByRecursion IsPair self.old.pending.items → AllByRecursion IsPair rest
+            → self.old.pending.items ≡ pair ∷ others
+            → FiresBy p pair i self.old self.new others rest) }
+        ensures pairs { AllByRecursion IsPair self.old.pending.items
+            → AllByRecursion IsPair self.new.pending.items }
+        ensures pushed { OnOk result ((others : List Equation)
+            → self.old.pending.items ≡ pair ∷ others → Pushed others self.new.pending.items) }
+        ensures pending { OnErr result (self.new.pending.items ≡ self.old.pending.items) }
+        ensures same { OnErr result ((rest : List Equation)
+            → held self.new (map equated_of rest) ≡ held self.old (map equated_of rest)) }
+        ensures places { OnErr result ((kind : ℕ) → size_at kind self.new ≡ size_at kind self.old) }
+        ensures arities { arities_of self.new.heaps.items ≡ arities_of self.old.heaps.items }
+        ensures few { length self.new.names.entries < 2 ^ 32 }
+        ensures registers { take (length self.new.heaps.items) self.new.registers.items
+            ≡ constants (length self.new.heaps.items) }
+        ensures limit { result ≡ Err MachineFault.Limit
+            → IsTooMuch (planned plan.now) (length self.new.names.entries) self.new.heaps.items }
+    {
+        let arguments = self.arguments(pair);
+        self.prepare(plan, arguments)?;
+        self.pending.take_first();
+        self.fire(pair, plan);
+        Ok(())
+    }
+
+    /// How many arguments the agents of a pair have.
+    #[inline(always)]
+    fn arguments(&self, pair: Equation) -> usize
+        requires left { (1 ≤ pair.left.tag) × (pair.left.tag ≤ length self.now.heaps.items) }
+        requires right { (1 ≤ pair.right.tag) × (pair.right.tag ≤ length self.now.heaps.items) }
+        ensures count { result ≡ arguments_of pair self.now.heaps.items }
+        ensures few { result < 2 ^ 33 }
+    {
+        let left = &self.heaps[pair.left.tag as usize - 1];
+        let right = &self.heaps[pair.right.tag as usize - 1];
+        left.arity() as usize + right.arity() as usize
+    }
+
+    /// Fires a pair that is no longer pending, for which there is all memory.
+    #[inline(always)]
+    fn fire(&mut self, pair: Equation, plan: &Plan)
+        requires symbols { length self.old.heaps.items < GIVEN }
+        requires registers { self.old.registers.items ≡ constants (length self.old.heaps.items) }
+        requires plan { CanFire (arities_of self.old.heaps.items) pair (planned plan.now) }
+        requires separate { IsSeparate (arities_of self.old.heaps.items) []
+            (equated_of pair ∷ held self.old []) }
+        requires memory { HasMemory (planned plan.now) (arguments_of pair self.old.heaps.items)
+            self.old }
+        requires spare { 1 ≤ self.old.spare
+            → HasRoomFor (self.old.spare + size_of (planned plan.now)) self.old }
+        ensures fires { (p : Plans) (i left right : ℕ) (rest : List Equation)
+            → pair.left.tag ≡ left + 1 → pair.right.tag ≡ right + 1
+            → p.arities ≡ arities_of self.old.heaps.items
+            → IsNumbered p i left right (planned plan.now)
+            → AllByRecursion IsPair self.old.pending.items → AllByRecursion IsPair rest
+            → FiresBy p pair i self.old self.new self.old.pending.items rest }
+        ensures pushed { Pushed self.old.pending.items self.new.pending.items }
+        ensures arities { arities_of self.new.heaps.items ≡ arities_of self.old.heaps.items }
+        ensures few { length self.new.names.entries < 2 ^ 32 }
+        ensures registers { take (length self.new.heaps.items) self.new.registers.items
+            ≡ constants (length self.new.heaps.items) }
+        ensures spare { HasSpare self.new }
+    {
         take(&mut self.heaps, pair.left, &mut self.registers);
         take(&mut self.heaps, pair.right, &mut self.registers);
         self.make(plan);
-        Ok(())
     }
 }

@@ -50,15 +50,16 @@ impl Machine {
     {
         let mut left = most;
         let mut stack = Vec::new(alloc);
-        for place in 0..pairs.min(self.tables.pending.len()) {
-            let pair = self.tables.pending[place];
+        let pending = self.pending();
+        for place in 0..pairs.min(pending.len()) {
+            let pair = pending[place];
             left -= self.size(pair.left, left, &mut stack)?;
             left -= self.size(pair.right, left, &mut stack)?;
             if left == 0 {
                 return Ok(place);
             }
         }
-        Ok(pairs.min(self.tables.pending.len()))
+        Ok(pairs.min(pending.len()))
     }
 
     /// Tells a border, if a word waits for it and it was not told before.

@@ -1,6 +1,6 @@
 //! Equations that came from other machines, put into a machine with all that hangs below them.
 
-ghost use Rattle.std.specs.Prelude.{◌≡◌, ◌⊎◌, ℕ, ◌^◌, ◌+◌, ◌-◌, ◌/◌, ◌<◌, ◌≤◌, List, [], ◌∷◌, ◌++◌, true, false, Err, IfOk, OnErr, OnOk, length, map, max, reverse, sum_by, vec_len, vec_capacity};
+ghost use Rattle.std.specs.Prelude.{◌≡◌, ◌⊎◌, ℕ, ◌^◌, ◌+◌, ◌-◌, ◌/◌, ◌<◌, ◌≤◌, List, [], ◌∷◌, ◌++◌, true, false, Err, IfOk, OnErr, OnOk, length, map, max, reverse, sum_by};
 ghost use Rattle.std.specs.List.{AllByRecursion, range_with_len};
 ghost use Rattle.ic_arena.specs.declared.word.TheConstants.{GIVEN, IDLE};
 ghost use Rattle.ic_arena.specs.declared.word.Word.{Word as AnyWord};
@@ -273,8 +273,8 @@ fn push(stack: &mut Vec<Word>, word: Word) -> Result<(), AllocError>
 /// left side.
 fn link_pairs(tables: &mut Tables, stack: &[Word])
     requires entered { AreEntered stack.now tables.old.names.entries }
-    requires room { vec_len tables.old.pending + length stack.now / 2
-        ≤ vec_capacity tables.old.pending }
+    requires room { length tables.old.pending.items + length stack.now / 2
+        ≤ tables.old.pending.capacity }
     ensures steps { (p : Plans) (rest : List Piece) → Steps p []
         (map equated_of (pairs_on stack.now)
         ++ (names_pieces 0 tables.old.names.entries

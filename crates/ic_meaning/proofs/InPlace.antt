@@ -1,6 +1,6 @@
 -- Lemmas: rounds that a machine makes in place are those of its configuration.
 use Rattle.std.proofs.Common.{◌≡◌, ℕ, zero, suc, ◌+◌, ◌<◌, ◌≤◌, List, [], ◌∷◌, ◌++◌, length, map, take, drop, refl, sym, ap, ◌∙◌, append_assoc, append-nil, arith, subst as transport}
-use Rattle.std.proofs.lemmas.List.{map-append, take-append-drop}
+use Rattle.std.proofs.lemmas.List.{map-append}
 use Rattle.std.proofs.Math.Seq.{take-append_seam, drop-append_seam}
 use Rattle.std.proofs.lemmas.List.Sorted.{IsPermutation-refl, IsPermutation-append_comm}
 use Rattle.std.specs.Prelude.{IsPermutation, IsTrue}
@@ -40,11 +40,6 @@ use Rattle.ic_meaning.proofs.FirstRound.{n as numbers_of, sound as numbers_are_s
 use Rattle.ic_meaning.proofs.Rounds.{RoundLaws, OneRound, AreGiven, one_round, stuck_pieces, first_round as a_round_first}
 
 -- ---- lists
-
-none_between : {X : Type 0} (k : ℕ) (xs : List X) → drop k (take k xs) ≡ []
-none_between zero xs = refl
-none_between (suc k) [] = refl
-none_between (suc k) (x ∷ xs) = none_between k xs
 
 all_taken : {X : Type 0} (xs : List X) → take (length xs) xs ≡ xs
 all_taken [] = refl
@@ -86,10 +81,10 @@ record Stage (rs : Rules) (numbers : List ℕ) (p : Plans) (n : Numbers) (i : Li
   stuck : AllByRecursion (IsStuck p) m.aside
 
 round_over : (rs : Rules) (numbers : List ℕ) (p : Plans) (n : Numbers) (i : List Word) (c : Configuration) (over : List (List ℕ)) (now : List ℕ) (g : Generation) (m : Net)
-    → Stage rs numbers p n i c over now g m → g.place ≡ g.end → OneRound rs numbers n i now (pieces m) (iterate rs.rules (length over) c)
+    → Stage rs numbers p n i c over now g m → g.end ≡ 0 → OneRound rs numbers n i now (pieces m) (iterate rs.rules (length over) c)
 round_over rs numbers p n i c over now g m st done =
-    let none : present g m.pending ≡ [] = ap (λ (k : ℕ). drop k (take g.end m.pending)) done ∙ none_between g.end m.pending in
-    let all : later g m.pending ≡ m.pending = ap (λ (k : ℕ). take k m.pending ++ drop g.end m.pending) done ∙ take-append-drop g.end m.pending in
+    let none : present g m.pending ≡ [] = ap (λ (k : ℕ). take k m.pending) done in
+    let all : later g m.pending ≡ m.pending = ap (λ (k : ℕ). drop k m.pending) done in
     st.go_on now (pieces m) (transport (λ l. Takes p st.es [] now st.xs (beside l m)) all
     (transport (λ l. Takes p st.es l now st.xs (beside (later g m.pending) m)) none st.takes))
 
@@ -132,12 +127,12 @@ stage_put_through rs numbers p n i c over now g old places st steps =
 
 module _ (laws : RoundLaws) (rs : Rules) (numbers : List ℕ) (p : Plans) (n : Numbers) (i : List Word) (c : Configuration) where
   stage_next : (over : List (List ℕ)) (now : List ℕ) (g : Generation) (m : Net) → IsRuleSet rs → ArePlans p → ArePlansOf rs numbers p → AreNumbers n → n.arities ≡ p.arities
-      → Stage rs numbers p n i c over now g m → g.place ≡ g.end → AllByRecursion IsAtPlace m.places
-      → Stage rs numbers p n i c (over ++ now ∷ []) [] (record { place = 0; end = length m.pending }) m
+      → Stage rs numbers p n i c over now g m → g.end ≡ 0 → AllByRecursion IsAtPlace m.places
+      → Stage rs numbers p n i c (over ++ now ∷ []) [] (record { end = length m.pending }) m
   stage_next over now g m set plans of_rules sound same st done at =
       let one = round_over rs numbers p n i c over now g m st done in
       let xs = map equated_of m.aside ++ m.places in
-      let h : Generation = record { place = 0; end = length m.pending } in
+      let h : Generation = record { end = length m.pending } in
       let first : present h m.pending ≡ m.pending = all_taken m.pending in
       let rest : later h m.pending ≡ [] = all_dropped m.pending in
       let d = round rs.rules (iterate rs.rules (length over) c) in
@@ -173,13 +168,13 @@ module _ (laws : RoundLaws) (rs : Rules) (numbers given operands : List ℕ) (p 
   pub to_start : OneNet c (net_of n start.interface (pieces start))
   to_start = first_net laws rs numbers p given c plan operands pairs start few set over_symbols named plans of_rules is_plan s parted starts separate
 
-  first_stage : AreGiven n c → Stage rs numbers p n start.interface c [] [] (record { place = 0; end = pairs }) start
+  first_stage : AreGiven n c → Stage rs numbers p n start.interface c [] [] (record { end = pairs }) start
   first_stage free =
       let pairs_first = first_pairs laws rs numbers p given c plan operands pairs start few set over_symbols named plans of_rules is_plan s parted starts separate in
       let head = starts.head pairs (unmapped _ (take pairs plan.links) pairs_first) in
       let more = head.0 in
       let pending : start.pending ≡ now0 ++ more = head.1 in
-      let g : Generation = record { place = 0; end = pairs } in
+      let g : Generation = record { end = pairs } in
       let many : length now0 ≡ pairs = head_length _ pairs plan.links parted.few in
       let present_is : present g start.pending ≡ now0 = ap (take pairs) pending ∙ (ap (λ (k : ℕ). take k (now0 ++ more)) (sym many) ∙ take-append_seam now0 more) in
       let later_is : later g start.pending ≡ more = ap (drop pairs) pending ∙ (ap (λ (k : ℕ). drop k (now0 ++ more)) (sym many) ∙ drop-append_seam now0 more) in
@@ -219,7 +214,7 @@ module _ (laws : RoundLaws) (rs : Rules) (numbers given operands : List ℕ) (p 
   stage free over now g m (next_round over' now' g' m' so_far done at) =
       stage_next laws rs numbers p n start.interface c over' now' g' m' set plans of_rules sound refl (stage free over' now' g' m' so_far) done at
 
-  pub rounds_are_rounds : AreGiven n c → (over : List (List ℕ)) (now : List ℕ) (g : Generation) (m : Net) → AreRounds p start pairs over now g m → g.place ≡ g.end
+  pub rounds_are_rounds : AreGiven n c → (over : List (List ℕ)) (now : List ℕ) (g : Generation) (m : Net) → AreRounds p start pairs over now g m → g.end ≡ 0
       → KeepsNet rs n m.interface (pieces m) × OneNet (net_of n m.interface (pieces m)) (iterate rs.rules (length over + 1) c) × FireAsRounds rs.rules numbers (over ++ now ∷ []) c
   rounds_are_rounds free over now g m so_far done =
       let st = stage free over now g m so_far in

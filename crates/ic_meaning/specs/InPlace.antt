@@ -12,12 +12,12 @@ use Rattle.ic_machine.specs.Steps.{Steps}
 -- and the net. The first generation is so many of the pairs that are pending first; each later one is all that is pending as the
 -- one before it is over. A generation is taken in one go or in several, and names are put through meanwhile.
 pub data AreRounds (p : Plans) (first : Net) (pairs : ℕ) : List (List ℕ) → List ℕ → Generation → Net → Type 0 where
-  begun : AreRounds p first pairs [] [] (record { place = 0; end = pairs }) first
+  begun : AreRounds p first pairs [] [] (record { end = pairs }) first
   goes_on : (over : List (List ℕ)) (now : List ℕ) (g h : Generation) (old new : Net) → AreRounds p first pairs over now g old
       → (a : Advances p g h old new) → AreRounds p first pairs over (now ++ a.ran.fired) h new
   put_through : (over : List (List ℕ)) (now : List ℕ) (g : Generation) (old new : Net) → AreRounds p first pairs over now g old
       → new ≡ record old { places = new.places }
       → ((rest : List Piece) → Steps p [] (old.places ++ rest) (new.places ++ rest)) → AreRounds p first pairs over now g new
   next_round : (over : List (List ℕ)) (now : List ℕ) (g : Generation) (n : Net) → AreRounds p first pairs over now g n
-      → g.place ≡ g.end → AllByRecursion IsAtPlace n.places
-      → AreRounds p first pairs (over ++ now ∷ []) [] (record { place = 0; end = length n.pending }) n
+      → g.end ≡ 0 → AllByRecursion IsAtPlace n.places
+      → AreRounds p first pairs (over ++ now ∷ []) [] (record { end = length n.pending }) n

@@ -248,7 +248,7 @@ pub fn rounds_in_place_are_rounds()
         → LinksPairsFirst p.arities (length given) plan pairs
         → Starts p (length given) plan operands first
         → IsSeparate p.arities first.interface (pieces first) → first.aside ≡ []
-        → AreRounds p first pairs over now g m → g.place ≡ g.end
+        → AreRounds p first pairs over now g m → g.end ≡ 0
         → (n : Numbers) × (n.arities ≡ p.arities) × (n.given ≡ given) × AreNumbers n
         × OneNet c (net_of n first.interface (pieces first))
         × KeepsNet rs n m.interface (pieces m)

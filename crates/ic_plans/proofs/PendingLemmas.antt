@@ -103,11 +103,11 @@ pending_first given p plan operands n pairs is first starts =
     starts.head pairs (are_pairs p.arities given plan begins.names begins.made begins.names_count begins.made_tags plan.links pairs is.links first.pairs)
 
 pub first_within : (given : ℕ) (p : Plans) (plan : Planned) (operands : List ℕ) (n : Net) (pairs : ℕ) → IsPlan p.arities given plan
-    → LinksPairsFirst p.arities given plan pairs → Starts p given plan operands n → IsWithin (record { place = 0; end = pairs }) n.pending
+    → LinksPairsFirst p.arities given plan pairs → Starts p given plan operands n → IsWithin (record { end = pairs }) n.pending
 first_within given p plan operands n pairs is first starts =
     let found = pending_first given p plan operands n pairs is first starts in
     let rs = first_registers p.arities given starts.begins.names starts.begins.made in
     let heads = map (equation_at rs) (take pairs plan.links) in
     let count : length heads ≡ pairs = length-map (take pairs plan.links) (equation_at rs) ∙ length-take-le pairs plan.links first.few in
     let all : length n.pending ≡ length heads + length found.0 = ap length found.1 ∙ length-append heads found.0 in
-    record { place = omega arith; end = omega (arith, count, all) }
+    omega (arith, count, all)

@@ -20,5 +20,5 @@ pub fn the_first_pairs_are_pending_first()
     ensures within { (given : ℕ) (p : Plans) (plan : Planned) (operands : List ℕ) (n : Net)
         (pairs : ℕ) → IsPlan p.arities given plan → LinksPairsFirst p.arities given plan pairs
         → Starts p given plan operands n
-        → IsWithin (record { place = 0; end = pairs }) n.pending }
+        → IsWithin (record { end = pairs }) n.pending }
 {}

@@ -1,17 +1,13 @@
 -- The net that the tables of a machine hold, and what they keep.
-use Rattle.std.specs.Prelude.{◌≡◌, ◌^◌, ◌<◌, ◌≤◌, List, ◌∷◌, ◌++◌, length, map, take, IsPermutation}
+use Rattle.std.specs.Prelude.{◌≡◌, ◌^◌, ◌<◌, ◌≤◌, ◌++◌, length, map, take}
 use Rattle.std.specs.List.{AllByRecursion}
 use Rattle.ic_arena.specs.declared.word.TheConstants.{GIVEN}
 use Rattle.ic_arena.specs.Tables.{names_pieces}
 use Rattle.ic_machine.specs.declared.machine.Machine.TheInside.{Inside}
-use Rattle.ic_machine.specs.declared.equation.Equation.{Equation}
-use Rattle.ic_machine.specs.Plan.{Plans, constants}
-use Rattle.ic_machine.specs.Generations.{Takes, beside}
-use Rattle.ic_machine.specs.Runs.{Ran}
+use Rattle.ic_machine.specs.Plan.{constants}
 use Rattle.ic_machine.specs.Net.{Net, pieces, IsPair}
 use Rattle.ic_machine.specs.Separate.{IsSeparate}
 use Rattle.ic_machine.specs.inner.Firing.{heaps_pieces, arities_of}
-use Rattle.ic_machine.specs.inner.Pairs.{IsLast}
 use Rattle.ic_machine.specs.inner.Tables.{HasSpare}
 
 abbrev pub net_of : Inside → Net
@@ -39,13 +35,3 @@ pub record IsSound (m : Inside) : Type 0 where
       ≡ constants (length m.tables.heaps.items)
   pub spare : HasSpare m.tables
   pub counts : AllByRecursion (λ k. k ≤ m.interactions) m.counts.items
-
--- The last pending pair is taken. Those that come of it stand after all others.
-pub record TakesLast (p : Plans) (old new : Net) : Type 0 where
-  pub pair : Equation
-  pub last : IsLast pair old.pending
-  pub more : List Equation
-  pub pending : new.pending ≡ last.front ++ more
-  pub ran : Ran p old new
-  pub takes : (now later : List Equation) → IsPermutation last.front (now ++ later)
-      → Takes p (pair ∷ now) now ran.fired (beside later old) (beside (later ++ more) new)

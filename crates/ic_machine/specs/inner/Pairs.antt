@@ -49,6 +49,11 @@ pub record Passed (p : Plans) (pending aside pending' aside' : List Equation) : 
   pub order : IsPermutation rest more
   pub stuck : AllByRecursion (IsStuck p) more
 
+-- an equation is the first of others
+pub record IsFirst (e : Equation) (es : List Equation) : Type 0 where
+  pub rest : List Equation
+  pub is : es ≡ e ∷ rest
+
 -- an equation is the last of others
 pub record IsLast (e : Equation) (es : List Equation) : Type 0 where
   pub front : List Equation

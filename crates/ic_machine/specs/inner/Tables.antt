@@ -1,5 +1,5 @@
 -- The tables of a machine, and what a firing does to them.
-use Rattle.std.specs.Prelude.{◌≡◌, ℕ, zero, suc, ◌+◌, ◌^◌, ◌<◌, ◌≤◌, ◌⊎◌, Contains, List, [], ◌∷◌, ◌++◌, Some, length, map, max, slice_get, sum_by, vec_capacity}
+use Rattle.std.specs.Prelude.{◌≡◌, ℕ, zero, suc, ◌+◌, ◌-◌, ◌^◌, ◌<◌, ◌≤◌, ◌⊎◌, Contains, List, [], ◌∷◌, ◌++◌, Some, length, map, max, slice_get, sum_by, vec_capacity}
 use Rattle.std.specs.List.{AllByRecursion}
 use Rattle.ic_arena.specs.declared.word.Word.{Word}
 use Rattle.ic_arena.specs.declared.word.TheConstants.{NAME, IDLE, GIVEN}
@@ -31,11 +31,15 @@ abbrev pub size_at : ℕ → Tables → ℕ
 size_at zero t = length t.names.entries
 size_at (suc s) t = (table t.heaps.items s).count
 
+-- how many arguments the agents of a pair have
+abbrev pub arguments_of : Equation → List Blocks → ℕ
+arguments_of e hs = (table hs (e.left.tag - 1)).arity + (table hs (e.right.tag - 1)).arity
+
 -- there is memory for what a plan makes, after so many arguments
 pub record HasMemory (p : Planned) (arguments : ℕ) (t : Tables) : Type 0 where
   pub names : length t.names.entries + p.names ≤ t.names.capacity
   pub few : length t.names.entries + p.names < 2 ^ 32
-  pub pending : length t.pending.items + length p.links ≤ vec_capacity t.pending
+  pub pending : length t.pending.items + length p.links ≤ t.pending.capacity
   pub registers : length t.registers.items + (arguments + p.names + length p.made) ≤ vec_capacity t.registers
   pub heaps : AllByRecursion (HasRoom t.heaps.items (length p.made)) p.made
 
@@ -43,7 +47,7 @@ pub record HasMemory (p : Planned) (arguments : ℕ) (t : Tables) : Type 0 where
 pub record HasRoomFor (n : ℕ) (t : Tables) : Type 0 where
   pub names : length t.names.entries + n ≤ t.names.capacity
   pub few : length t.names.entries + n < 2 ^ 32
-  pub pending : length t.pending.items + n ≤ vec_capacity t.pending
+  pub pending : length t.pending.items + n ≤ t.pending.capacity
   pub heaps : (s : ℕ) → s < length t.heaps.items → HasBlocks n (table t.heaps.items s)
 
 -- how many names, agents and links a plan makes
@@ -99,10 +103,12 @@ pub record FiresBeside (p : Plans) (e : Equation) (fired : ℕ) (old new : Table
   pub links : Steps p [] middle (names_pieces 0 new.names.entries
       ++ (heaps_pieces 0 new.heaps.items ++ (map equated_of more ++ map equated_of others)))
 
--- This pair fires by this plan, and what it makes is linked. There are as many places as before, or as are in use as it has fired.
-pub record FiresBy (p : Plans) (e : Equation) (fired : ℕ) (old new : Tables) (rest : List Equation) : Type 0 where
+-- This pair, which is no longer pending, fires by this plan beside the others, which are, and what it makes is linked. There are
+-- as many places as before, or as are in use as it has fired.
+pub record FiresBy (p : Plans) (e : Equation) (fired : ℕ) (old new : Tables) (others rest : List Equation) : Type 0 where
   pub moment : List Piece
-  pub bare : (front more others : List Equation) → old.pending.items ≡ front ++ e ∷ [] → new.pending.items ≡ front ++ more
-      → FiresBeside p e fired old new more others
-  pub way : Way p (fired ∷ []) (moment ∷ []) (held old (map equated_of rest)) (held new (map equated_of rest))
+  pub bare : (more beside : List Equation) → new.pending.items ≡ others ++ more → FiresBeside p e fired old new more beside
+  pub way : Way p (fired ∷ []) (moment ∷ [])
+      (equated_of e ∷ (names_pieces 0 old.names.entries ++ (heaps_pieces 0 old.heaps.items
+      ++ (map equated_of others ++ map equated_of rest)))) (held new (map equated_of rest))
   pub places : (kind : ℕ) → size_at kind new ≡ max (size_at kind old) (in_use kind moment)

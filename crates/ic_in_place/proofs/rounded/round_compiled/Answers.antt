@@ -36,5 +36,5 @@ run_by_rounds-requires-clause-within g c =
     let plan = planned first.plan in
     let is_plan = subst (λ (a : List ℕ). IsPlan a (length first.given.items) plan) (sym c.requires.arities) c.in_ok-first.ensures.start.plan in
     let firsts = subst (λ (a : List ℕ). LinksPairsFirst a (length first.given.items) plan c.in_ok-first.pairs) (sym c.requires.arities) c.in_ok-first.ensures.pairs in
-    (c.the_first_pairs_are_pending_first.ensures.within (length first.given.items) c.args.program.now plan first.interface.items c.in_ok-machine.machine c.in_ok-first.pairs
-    is_plan firsts c.in_ok-machine.ensures.starts).end
+    c.the_first_pairs_are_pending_first.ensures.within (length first.given.items) c.args.program.now plan first.interface.items c.in_ok-machine.machine c.in_ok-first.pairs
+    is_plan firsts c.in_ok-machine.ensures.starts

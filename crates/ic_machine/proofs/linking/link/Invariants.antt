@@ -1,4 +1,4 @@
-use Rattle.std.proofs.Common.{◌≡◌, List, [], ◌∷◌, ◌++◌, length, vec_len, vec_capacity}
+use Rattle.std.proofs.Common.{◌≡◌, List, [], ◌∷◌, ◌++◌, length}
 use Rattle.ic_arena.specs.Piece.{Piece, equated}
 use Rattle.ic_arena.specs.Tables.{names_pieces}
 use Rattle.ic_machine.specs.Plan.{Plans}
@@ -16,8 +16,8 @@ invariant-follow l = record {
   named : AreNamed l.left l.right l.names.entries;
   names : length l.names.entries ≡ length l.initial.names.entries;
   pending : l.pending.items ≡ l.initial.pending.items;
-  len : vec_len l.pending ≡ vec_len l.initial.pending;
-  capacity : vec_capacity l.pending ≡ vec_capacity l.initial.pending;
+  len : length l.pending.items ≡ length l.initial.pending.items;
+  capacity : l.pending.capacity ≡ l.initial.pending.capacity;
   memory : l.names.capacity ≡ l.initial.names.capacity;
 }
 

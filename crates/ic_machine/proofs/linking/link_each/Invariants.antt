@@ -1,4 +1,4 @@
-use Rattle.std.proofs.Common.{◌≡◌, ◌+◌, ◌≤◌, List, [], ◌++◌, map, drop, length, vec_len, vec_capacity}
+use Rattle.std.proofs.Common.{◌≡◌, ◌+◌, ◌≤◌, List, [], ◌++◌, map, drop, length}
 use Rattle.ic_arena.specs.Piece.{Piece}
 use Rattle.ic_arena.specs.Tables.{names_pieces}
 use Rattle.ic_machine.specs.declared.equation.Equation.{Equation}
@@ -22,8 +22,8 @@ invariant-loop-each l = record {
       (map (linked l.registers) (drop l.each-index l.links) ++ (names_pieces 0 l.names.entries ++ (map equated_of more ++ rest)));
   head : HeadSoFar l.links l.registers l.each-index l.initial.pending.items l.pending.items;
   pushed : Pushed l.initial.pending.items l.pending.items;
-  len : vec_len l.pending ≤ vec_len l.initial.pending + l.each-index;
-  capacity : vec_capacity l.pending ≡ vec_capacity l.initial.pending;
+  len : length l.pending.items ≤ length l.initial.pending.items + l.each-index;
+  capacity : l.pending.capacity ≡ l.initial.pending.capacity;
   memory : l.names.capacity ≡ l.initial.names.capacity;
   names : length l.names.entries ≡ length l.initial.names.entries;
 }

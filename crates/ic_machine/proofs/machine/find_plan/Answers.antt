@@ -1,10 +1,10 @@
-use Rattle.std.proofs.Common.{◌≡◌, ◌+◌, ◌-◌, ℕ, List, [], ◌∷◌, ◌++◌, Bool, true, cond, length, take, slice_get, Some, ap, not, refl, sym, subst, ◌∙◌}
+use Rattle.std.proofs.Common.{◌≡◌, List, [], ◌∷◌, ◌++◌, Bool, true, cond, ap, not, refl, sym, subst, ◌∙◌}
 use Rattle.std.specs.List.{AllByRecursion}
 use Rattle.ic_machine.specs.declared.equation.Equation.{Equation}
 use Rattle.ic_machine.specs.Net.{IsPair}
-use Rattle.ic_machine.specs.inner.Pairs.{IsLast, Passed}
+use Rattle.ic_machine.specs.inner.Pairs.{Passed}
 use Rattle.ic_machine.proofs.Fresh.{all_back, all_front}
-use Rattle.ic_machine.proofs.Running.{last_here, passed_more, passed_none, popped}
+use Rattle.ic_machine.proofs.Running.{passed_more, passed_none}
 use Rattle.ic_machine.proofs.machine.find_plan.Goals as goal
 
 pub loop-pair-init : goal.loop-pair-init
@@ -19,12 +19,8 @@ loop-pair-preserved c =
     let es : List Equation = c.loop-pair.pending.items in
     let us : List Equation = c.loop-pair.aside.items in
     let new : List Equation = c.pop.new.self.items in
-    let e : Equation = c.in-Some.pair.now in
-    let at = subst (λ (l : List Equation). slice_get l (length l - 1) ≡ Some e) c.deref.ensures.value
-    (sym c.in-Some.ensures.value) in
-    let last : IsLast e es × ((length es - 1) + 1 ≡ length es) = last_here es e at in
-    let rest = c.pop.ensures.rest ∙ ap (λ (k : ℕ). take (k - 1) es) c.loop-pair.pending.ok.0 in
-    let parts : es ≡ new ++ e ∷ [] = popped es new (length es - 1) e last.0 last.1 rest in
+    let e : Equation = c.in-Some.pair in
+    let parts : es ≡ new ++ e ∷ [] = c.pop.ensures.items e c.in-Some.ensures in
     let pairs = subst (λ (l : List Equation). AllByRecursion IsPair l) parts c.loop-pair.invariant.pairs in
     let fine : ◌≡◌ {A = Bool} true (not c.is_err.result) = sym (ap not c.if-is_err.false) in
     let pushed = c.push.ensures.items

@@ -1,4 +1,4 @@
-use Rattle.std.proofs.Common.{◌≡◌, vec_capacity, vec_len}
+use Rattle.std.proofs.Common.{◌≡◌, length}
 use Rattle.std.specs.List.{AllByRecursion}
 use Rattle.ic_machine.specs.Net.{IsPair}
 use Rattle.ic_machine.specs.inner.Pairs.{Passed}
@@ -8,8 +8,8 @@ abbrev pub invariant-loop-pair : goal.invariant-loop-pair
 invariant-loop-pair l = record {
   pairs : AllByRecursion IsPair l.pending.items;
   passed : Passed l.program l.initial.pending.items l.initial.aside.items l.pending.items l.aside.items;
-  memory : vec_capacity l.pending ≡ vec_capacity l.initial.pending;
+  memory : l.pending.capacity ≡ l.initial.pending.capacity;
 }
 
 abbrev pub decreases-loop-pair : goal.decreases-loop-pair
-decreases-loop-pair l = vec_len l.pending
+decreases-loop-pair l = length l.pending.items

@@ -1,4 +1,4 @@
-use Rattle.std.proofs.Common.{◌≡◌, ◌+◌, ◌*◌, ◌≤◌, List, [], ◌++◌, drop, length, map, vec_len, vec_capacity}
+use Rattle.std.proofs.Common.{◌≡◌, ◌+◌, ◌*◌, ◌≤◌, List, [], ◌++◌, drop, length, map}
 use Rattle.ic_arena.specs.Piece.{Piece}
 use Rattle.ic_arena.specs.Tables.{names_pieces}
 use Rattle.ic_machine.specs.Net.{equated_of}
@@ -18,8 +18,8 @@ invariant-loop-place l = record {
       ++ (names_pieces 0 l.tables.names.entries ++ (map equated_of l.tables.pending.items ++ rest)));
   entered : AreEntered (drop (2 * l.place) l.stack) l.tables.names.entries;
   pushed : Pushed l.initial.tables.pending.items l.tables.pending.items;
-  len : vec_len l.tables.pending ≤ vec_len l.initial.tables.pending + l.place;
-  capacity : vec_capacity l.tables.pending ≡ vec_capacity l.initial.tables.pending;
+  len : length l.tables.pending.items ≤ length l.initial.tables.pending.items + l.place;
+  capacity : l.tables.pending.capacity ≡ l.initial.tables.pending.capacity;
   names : length l.tables.names.entries ≡ length l.initial.tables.names.entries;
   heaps : l.tables.heaps ≡ l.initial.tables.heaps;
   registers : l.tables.registers ≡ l.initial.tables.registers;

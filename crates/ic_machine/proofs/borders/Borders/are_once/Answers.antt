@@ -1,4 +1,4 @@
-use Rattle.std.proofs.Common.{◌≡◌, ℕ, ◌≤◌, subst, map}
+use Rattle.std.proofs.Common.{ℕ, ◌≤◌, subst, map}
 use Rattle.ic_machine.specs.Moving.{Ends, times}
 use Rattle.ic_machine.proofs.BordersOnce.{borders_cuts, borders_names}
 use Rattle.ic_machine.proofs.borders.Borders.are_once.Goals as goal

@@ -5,8 +5,7 @@ use Rattle.ic_machine.specs.declared.equation.Equation.{Equation}
 use Rattle.ic_machine.specs.Plan.{Plans}
 use Rattle.ic_machine.specs.Net.{Net, IsActive}
 use Rattle.ic_machine.specs.inner.Pairs.{HasNumber}
-use Rattle.ic_machine.proofs.Exchanged.{get_there}
-use Rattle.ic_machine.proofs.Takings.{numbered_active}
+use Rattle.ic_machine.proofs.Takings.{get_there, numbered_active}
 use Rattle.ic_machine.proofs.machine.Machine.has_active.Goals as goal
 
 -- a pair whose number was found
@@ -22,8 +21,8 @@ found p es i d (Some n) lt h is =
 
 pub returns-then-is_some-clause-some : goal.returns-then-is_some-clause-some
 returns-then-is_some-clause-some c = λ _.
-    let same : c.deref-pair-items.result.now ≡ c.args.self.now.pending =
-    c.deref-pair-items.ensures.value ∙ ap (λ (n : Net). n.pending) c.self.view_is in
+    let same : c.as_slice-pair-items.result.now ≡ c.args.self.now.pending =
+    c.as_slice-pair-items.ensures ∙ ap (λ (n : Net). n.pending) c.self.view_is in
     subst (λ (l : List Equation). (e : Equation) × Contains l e × IsActive c.args.program.now e) same
-    (found c.args.program.now c.deref-pair-items.result.now c.loop-pair.pair-index _ c.number_for.result c.loop-pair-test.true
+    (found c.args.program.now c.as_slice-pair-items.result.now c.loop-pair.pair-index _ c.number_for.result c.loop-pair-test.true
     c.number_for.ensures.found (sym c.is_some.ensures ∙ c.if-is_some.true))

@@ -1,4 +1,4 @@
-use Rattle.std.proofs.Common.{◌≡◌, ◌+◌, ◌-◌}
+use Rattle.std.proofs.Common.{◌≡◌, ◌+◌}
 use Rattle.ic_machine.specs.Generations.{Advances, IsWithin}
 use Rattle.ic_machine.proofs.machine.Machine.run_generation.Given as goal
 
@@ -10,4 +10,4 @@ invariant-loop-generation l = record {
 }
 
 abbrev pub decreases-loop-generation : goal.decreases-loop-generation
-decreases-loop-generation l = l.generation.end - l.generation.place
+decreases-loop-generation l = l.generation.end

@@ -7,7 +7,7 @@ use Rattle.ic_machine.specs.inner.Firing.{arities_of}
 use Rattle.ic_machine.specs.inner.Machine.{net_of}
 use Rattle.ic_machine.specs.inner.Moving.{places_in, AreInHand}
 use Rattle.ic_machine.proofs.Packing.{hand_alone}
-use Rattle.ic_machine.proofs.Parcels.{give_bordered, give_sound, items_of, machine_hand, words_beside, words_of}
+use Rattle.ic_machine.proofs.Parcels.{give_bordered, give_sound, queued_of, machine_hand, words_beside, words_of}
 use Rattle.ic_machine.proofs.machine.Machine.ship.Goals as goal
 
 -- no word is in hand
@@ -25,7 +25,7 @@ invariant_of-self c =
     let m : Inside = c.self.inside in
     let t : Tables = c.ship_from.new.tables in
     let size = c.in_err-shipped.ensures.size in
-    give_sound m t 0 c.self.invariant (items_of t.pending m.tables.pending size.pending) size.names size.arities
+    give_sound m t 0 c.self.invariant (queued_of t.pending m.tables.pending size.pending) size.names size.arities
     (words_of t.registers m.tables.registers size.registers) size.spare
     (c.in_err-shipped.ensures.left (words_beside m 0) (in_hand m c.args.self.now c.args.borders.now c.self.view_is c.requires.bordered))
 
@@ -34,7 +34,7 @@ invariant_of-self-2 c =
     let m : Inside = c.self.inside in
     let t : Tables = c.ship_from.new.tables in
     let size = c.in_ok-shipped.ensures.size in
-    give_sound m t 0 c.self.invariant (items_of t.pending m.tables.pending size.pending) size.names size.arities
+    give_sound m t 0 c.self.invariant (queued_of t.pending m.tables.pending size.pending) size.names size.arities
     (words_of t.registers m.tables.registers size.registers) size.spare
     (c.in_ok-shipped.ensures.left (words_beside m 0) (in_hand m c.args.self.now c.args.borders.now c.self.view_is c.requires.bordered))
 
@@ -46,5 +46,5 @@ pub returns-clause-bordered : goal.returns-clause-bordered
 returns-clause-bordered c =
     let m : Inside = c.self.inside in
     let t : Tables = c.ship_from.new.tables in
-    give_bordered m t c.ship_from.new.borders 0 (items_of t.pending m.tables.pending c.in_ok-shipped.ensures.size.pending)
+    give_bordered m t c.ship_from.new.borders 0 (queued_of t.pending m.tables.pending c.in_ok-shipped.ensures.size.pending)
     (c.in_ok-shipped.ensures.named (words_beside m 0) (in_hand m c.args.self.now c.args.borders.now c.self.view_is c.requires.bordered))

@@ -1,4 +1,4 @@
-use Rattle.std.proofs.Common.{◌≡◌, ◌+◌, ◌^◌, ◌<◌, ◌≤◌, ℕ, List, [], ◌++◌, length, map, max, ap, sym, subst, ◌∙◌, append_assoc, arith, vec_capacity}
+use Rattle.std.proofs.Common.{◌≡◌, ◌+◌, ◌^◌, ◌<◌, ◌≤◌, ℕ, List, [], ◌++◌, length, map, max, ap, sym, subst, ◌∙◌, append_assoc, arith}
 use Rattle.std.specs.List.{AllByRecursion}
 use Rattle.std.proofs.lemmas.List.{length-append, length-map}
 use Rattle.ic_arena.specs.declared.word.Word.{Word}
@@ -150,11 +150,9 @@ returns-clause-room c = λ n h.
     let linked_memory = c.link_each.ensures.memory in
     let longer = c.link_each.ensures.len in
     let pending_memory = c.link_each.ensures.capacity in
-    let before = t.pending.ok.0 in
-    let after = c.link_each.new.pending.ok.0 in
     let names : length t.names.entries + (n + (p.names + length p.made + length p.links)) ≤ t.names.capacity = h.names in
     let few : length t.names.entries + (n + (p.names + length p.made + length p.links)) < 2 ^ 32 = h.few in
-    let pending : length t.pending.items + (n + (p.names + length p.made + length p.links)) ≤ vec_capacity t.pending = h.pending in
+    let pending : length t.pending.items + (n + (p.names + length p.made + length p.links)) ≤ t.pending.capacity = h.pending in
     record {
       names = omega arith;
       few = omega arith;

@@ -1,4 +1,4 @@
-use Rattle.std.proofs.Common.{◌≡◌, ◌+◌, ◌^◌, ◌<◌, length, arith, ◌≤◌, vec_capacity}
+use Rattle.std.proofs.Common.{◌≡◌, ◌+◌, ◌^◌, ◌<◌, length, arith, ◌≤◌}
 use Rattle.std.proofs.lemmas.List.{length-map}
 use Rattle.ic_machine.specs.declared.tables.Tables.{Tables}
 use Rattle.ic_machine.specs.Plan.{Planned, made_of, planned}
@@ -18,11 +18,10 @@ returns-then-arguments-size-clause-memory c =
     let made : length p.made ≡ length c.args.plan.now.makes.items = length-map c.args.plan.now.makes.items made_of in
     let makes = c.args.plan.now.makes.ok.0 in
     let links = c.args.plan.now.links.ok.0 in
-    let pending = t.pending.ok.0 in
     let registers = c.truncate.new.self.ok.0 in
     let names_room : length t.names.entries + t.spare ≤ t.names.capacity = room.names in
     let few : length t.names.entries + t.spare < 2 ^ 32 = room.few in
-    let pending_room : length t.pending.items + t.spare ≤ vec_capacity t.pending = room.pending in
+    let pending_room : length t.pending.items + t.spare ≤ t.pending.capacity = room.pending in
     record {
       names = omega (arith, c.if-size-self.true, c.len.ensures);
       few = omega (arith, c.if-size-self.true, c.len.ensures);
