@@ -12,7 +12,8 @@ use crate::fault::{ExpandFault, Reason};
 use crate::forms::has_form;
 use crate::writing::expand;
 use ic_rich::{
-    Files, Found, JoinFault, JoinRefusal, Joined, RichFault, Unfolded, Wording, join, sentence, unfold,
+    Files, Found, JoinFault, JoinRefusal, Joined, RichFault, Unfolded, Wording, join, sentence,
+    unfold,
 };
 use ic_text::TextFault;
 use std::alloc::{AllocError, AllocFailed, Global};

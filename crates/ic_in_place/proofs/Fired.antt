@@ -218,6 +218,21 @@ over_by_counts p first pairs g numbers none made m (some over now h last so_far 
     from_weight g numbers last.counts f 0 each
     ∙ (ap (λ (n : ℕ). weight g numbers n f 0) len ∙ weight_made g numbers (length p.plans) all below)
 
+over_len : (p : Plans) (first : Net) (pairs : ℕ) (made : List (List ℕ)) (m : Net) → AreOver p first pairs made m → length m.counts ≡ length first.counts
+over_len p first pairs made m none_yet = refl
+over_len p first pairs made m (some over now h last so_far done) = (counted p first pairs over now h last so_far).len
+
+-- there is a count for each plan
+pub each_counted : (p : Plans) (first : Net) (pairs : ℕ) (numbers : List ℕ) → first.counts ≡ map (λ plan. 0) p.plans → length numbers ≡ length p.plans
+    → (made : List (List ℕ)) (told : List RoundOver) → AreTold p first pairs made told → AllByRecursion (λ o. length o.net.counts ≡ length numbers) told
+each_counted p first pairs numbers none numbered made told none_told = tt
+each_counted p first pairs numbers none numbered made told (one_told over fired so_far m are done between) =
+    let rest = each_counted p first pairs numbers none numbered over so_far are in
+    let o : RoundOver = record { round = length over + 1; pairs = length fired; net = m } in
+    let here : length m.counts ≡ length numbers =
+    over_len p first pairs (over ++ fired ∷ []) m done ∙ (ap (length {A = ℕ}) none ∙ (length-map p.plans (λ plan. 0) ∙ sym numbered)) in
+    all_append (λ (x : RoundOver). length x.net.counts ≡ length numbers) so_far (o ∷ []) rest (here, tt)
+
 -- what is told of rounds, by what their nets count
 pub told_by_counts : AmountLaws → (p : Plans) (first : Net) (pairs : ℕ) (f : ℕ → ℕ) (rs : Rules) (numbers : List ℕ) (c : Configuration) → IsRuleSet rs → IsTrue (is_over rs.symbols c) → HasNames c
     → first.counts ≡ map (λ plan. 0) p.plans → (made : List (List ℕ)) (told : List RoundOver) → AreTold p first pairs made told → FireAsRounds rs.rules numbers made c

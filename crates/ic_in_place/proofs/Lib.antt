@@ -22,6 +22,7 @@ pub mod Turns
 pub mod RoundsMade
 pub mod Rounding
 pub mod RoundedNet
+pub mod Still
 pub mod LineByRounds
 pub mod RoundsNeeded
 pub mod RoundsTold

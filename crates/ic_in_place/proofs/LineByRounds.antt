@@ -19,12 +19,13 @@ use Rattle.ic_machine.specs.Net.{pieces}
 use Rattle.ic_meaning.specs.Nets.{net_of}
 use Rattle.ic_in_place.specs.Reducing.{IsPutTogether}
 use Rattle.ic_in_place.specs.Reductions.{is_written, line_reached}
-use Rattle.ic_in_place.specs.Rounds.{EndsByRounds}
+use Rattle.ic_in_place.specs.Rounds.{EndsByRounds, stands_still}
 use Rattle.ic_in_place.specs.declared.rounded.Rounded.{Rounded}
 use Rattle.ic_in_place.specs.declared.running.End.{End}
 use Rattle.ic_in_place.specs.declared.running.End.TheVariants.{Quiet, Steps}
 use Rattle.ic_in_place.specs.declared.stream.Asked.{Asked}
 use Rattle.ic_in_place.specs.declared.stream.Asked.TheVariants.{Answer, AlsoPart, Nothing}
+use Rattle.ic_in_place.proofs.Still.{still_none, still_or_not}
 use Rattle.ic_in_place.proofs.Written.{asked_for}
 
 first_of_all : (c d e : Configuration) → NameStep c d → NameSteps d e → NameSteps c e
@@ -128,28 +129,12 @@ module _ (laws : LineLaws) (together : (c d : Configuration) → HasNames c → 
       transport (λ (k : ℕ). OneNet answer (iterate rs k c)) (sym zero_rounds) (laws.other_way c answer (reached_by_none laws rs c answer e.ends.names r))
 
   pub net : OneNet answer (iterate rs reached.rounds c)
-  net = by either
+  net = by (still_or_not reached.outcome.end reached.outcome.interactions reached.outcome.name_steps)
     where
-      quiet_end : Steps ≡ Quiet → ⊥
-      quiet_end same = cc
-
-      at_quiet : reached.outcome.end ≡ Quiet → (b : Bool) → (reached.outcome.interactions == 0) ≡ b → (o : Option ℕ) → reached.outcome.name_steps ≡ o → OneNet answer (iterate rs reached.rounds c)
-      at_quiet quiet false is o steps = as_taken (e.count.all (λ all. differ all.1))
-        where
-          differ : reached.outcome.interactions ≡ 0 → ⊥
-          differ none = let found = (unsigned_Decides reached.outcome.interactions 0).1 none in let bad : true ≡ false = sym found ∙ is in cc
-      at_quiet quiet true is None steps = as_taken (e.count.all (λ all. let bad : None ≡ Some 0 = sym steps ∙ all.2 in cc))
-      at_quiet quiet true is (Some zero) steps =
-          let none = (unsigned_Decides reached.outcome.interactions 0).0 is in
-          as_it_stood none (e.count.none quiet none steps)
-      at_quiet quiet true is (Some (suc k)) steps = as_taken (e.count.all (λ all. let bad : Some (suc k) ≡ Some 0 = sym steps ∙ all.2 in absurd (no_more k bad)))
-        where
-          no_more : (j : ℕ) → ◌≡◌ {A = Option ℕ} (Some (suc j)) (Some 0) → ⊥
-          no_more j same = let inner : suc j ≡ 0 = cc in absurd (omega (arith, inner))
-
-      by : (reached.outcome.end ≡ Quiet) ⊎ (reached.outcome.end ≡ Steps) → OneNet answer (iterate rs reached.rounds c)
-      by (inl quiet) = at_quiet quiet (reached.outcome.interactions == 0) refl reached.outcome.name_steps refl
-      by (inr steps) = as_taken (e.count.all (λ all. quiet_end (sym steps ∙ all.0)))
+      by : (stands_still reached.outcome.end reached.outcome.interactions reached.outcome.name_steps ≡ true)
+          ⊎ (stands_still reached.outcome.end reached.outcome.interactions reached.outcome.name_steps ≡ false) → OneNet answer (iterate rs reached.rounds c)
+      by (inl is) = as_it_stood (still_none reached.outcome.end reached.outcome.interactions reached.outcome.name_steps is) (e.count.none is)
+      by (inr isnt) = as_taken (e.count.all isnt)
 
   pub same : 1 ≤ reached.rounds → SameButNext answer (iterate rs reached.rounds c)
   same one =

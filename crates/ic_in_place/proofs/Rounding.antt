@@ -80,6 +80,7 @@ rounded_so law s most rounds nodes numbers p given plan operands pairs old m end
         ends = ends;
         net = λ over. held.1 (ends.whole over);
         rules = held.2;
+        numbered = numbered;
       },
       holds,
     )

@@ -1,5 +1,5 @@
 -- Lemmas: rounds of a text are made as long as a step is possible.
-use Rattle.std.proofs.Common.{◌≡◌, ◌⊎◌, inl, inr, ℕ, ◌+◌, ◌^◌, ◌≤◌, ◌<◌, List, [], ◌∷◌, ◌++◌, Option, None, Some, length, sum_by, refl, sym, ap, ◌∙◌, arith, subst as transport}
+use Rattle.std.proofs.Common.{◌≡◌, ◌⊎◌, inl, inr, ℕ, ◌+◌, ◌^◌, ◌≤◌, ◌<◌, List, [], ◌∷◌, ◌++◌, Bool, true, false, Option, None, Some, length, sum_by, refl, sym, ap, ◌∙◌, arith, subst as transport}
 use Rattle.std.proofs.lemmas.List.Sums.{sum_by-cons}
 use Rattle.std.proofs.lemmas.List.Sorted.{length_permutation}
 use Rattle.std.specs.Prelude.{IsPermutation, IsTrue, SomeIff}
@@ -23,14 +23,14 @@ use Rattle.ic_machine.specs.Net.{pieces}
 use Rattle.ic_meaning.specs.Nets.{net_of}
 use Rattle.ic_in_place.specs.Counting.{AreNameSteps, TellsNameSteps, name_steps}
 use Rattle.ic_in_place.specs.Reducing.{CanInteract, EndsBy, IsPutTogether}
-use Rattle.ic_in_place.specs.Rounds.{EndsByRounds}
+use Rattle.ic_in_place.specs.Rounds.{EndsByRounds, stands_still}
 use Rattle.ic_in_place.specs.declared.rounded.Rounded.{Rounded}
 use Rattle.ic_in_place.specs.declared.running.End.{End}
-use Rattle.ic_in_place.specs.declared.running.End.TheVariants.{Quiet, Steps}
+use Rattle.ic_in_place.specs.declared.running.End.TheVariants.{Quiet, Steps, Nodes, Limit, Memory}
 use Rattle.ic_in_place.specs.declared.stream.Asked.{Asked}
 use Rattle.ic_in_place.proofs.LineByRounds.{a_round_is_settled, settled_nets}
 use Rattle.ic_in_place.proofs.RoundsNeeded.{later_rounds_are_needed, quiet_as}
-use Rattle.ic_in_place.proofs.RoundsTold.{StoodStill, stood_still}
+use Rattle.ic_in_place.proofs.Still.{none_still, quiet_still, still_or_not, still_quiet}
 
 -- what the laws say that this one builds on
 pub record EnoughLaws : Type 0 where
@@ -103,9 +103,6 @@ told_as : (o : Option ℕ) (P : Type 0) (v n : ℕ) → SomeIff o P n → o ≡ 
 told_as None P v n so is = absurd (cc is)
 told_as (Some x) P v n so is = let same : x ≡ n = so.1 in let inner : x ≡ v = cc in sym same ∙ inner
 
-steps_or_quiet : Steps ≡ Quiet → ⊥
-steps_or_quiet same = cc
-
 -- ---- of a text
 
 module _ (laws : EnoughLaws) (limits : Limits) (most : ℕ) (asked : Asked) (input line : List ℕ) (reached : Rounded) (e : EndsByRounds limits most asked input reached line) where
@@ -118,24 +115,25 @@ module _ (laws : EnoughLaws) (limits : Limits) (most : ℕ) (asked : Asked) (inp
   abbrev answer : Configuration
   answer = e.ends.answer
 
-  stood : StoodStill reached.outcome.end reached.outcome.interactions reached.outcome.name_steps
-      ⊎ (¬ StoodStill reached.outcome.end reached.outcome.interactions reached.outcome.name_steps)
-  stood = stood_still reached.outcome.end reached.outcome.interactions reached.outcome.name_steps
+  -- whether the text stands still, by this end
+  abbrev still_by : End → Bool
+  still_by end = stands_still end reached.outcome.interactions reached.outcome.name_steps
+
+  stood : (still_by reached.outcome.end ≡ true) ⊎ (still_by reached.outcome.end ≡ false)
+  stood = still_or_not reached.outcome.end reached.outcome.interactions reached.outcome.name_steps
 
   made_all : 1 ≤ reached.rounds → reached.rounds ≡ e.taken
   made_all one = by stood
     where
-      by : StoodStill reached.outcome.end reached.outcome.interactions reached.outcome.name_steps
-          ⊎ (¬ StoodStill reached.outcome.end reached.outcome.interactions reached.outcome.name_steps) → reached.rounds ≡ e.taken
-      by (inl is) = let none = e.count.none is.0 is.1 is.2 in absurd (omega (arith, none, one))
+      by : (still_by reached.outcome.end ≡ true) ⊎ (still_by reached.outcome.end ≡ false) → reached.rounds ≡ e.taken
+      by (inl is) = let none = e.count.none is in absurd (omega (arith, none, one))
       by (inr isnt) = e.count.all isnt
 
   pub within : reached.rounds ≤ most
   within = by stood
     where
-      by : StoodStill reached.outcome.end reached.outcome.interactions reached.outcome.name_steps
-          ⊎ (¬ StoodStill reached.outcome.end reached.outcome.interactions reached.outcome.name_steps) → reached.rounds ≤ most
-      by (inl is) = let none = e.count.none is.0 is.1 is.2 in omega (arith, none)
+      by : (still_by reached.outcome.end ≡ true) ⊎ (still_by reached.outcome.end ≡ false) → reached.rounds ≤ most
+      by (inl is) = let none = e.count.none is in omega (arith, none)
       by (inr isnt) = let all = e.count.all isnt in let low = e.rounded.ends.within in omega (arith, all, low)
 
   pub later : (n : ℕ) → 1 ≤ n → n < reached.rounds → IsQuiet rs.rules (iterate rs.rules n c) → ⊥
@@ -153,8 +151,8 @@ module _ (laws : EnoughLaws) (limits : Limits) (most : ℕ) (asked : Asked) (inp
   told_steps : reached.outcome.end ≡ Quiet → TellsNameSteps rs.rules c reached.outcome.interactions (length answer.equations) Quiet reached.outcome.name_steps
   told_steps at = transport (λ (x : End). TellsNameSteps rs.rules c reached.outcome.interactions (length answer.equations) x reached.outcome.name_steps) at e.ends.name_steps
 
-  pub first : (reached.outcome.end ≡ Quiet) ⊎ ((reached.outcome.end ≡ Steps) ⊎ (1 ≤ reached.outcome.interactions)) → 1 ≤ reached.rounds → IsQuiet rs.rules c → ⊥
-  first either one quiet = by either
+  pub first : 1 ≤ reached.rounds → IsQuiet rs.rules c → ⊥
+  first one quiet = by reached.outcome.end refl
     where
       fired : e.ends.reached.fired ≡ []
       fired = quiet_reaches rs.rules c answer e.ends.reached.fired quiet e.ends.reached.reached
@@ -170,18 +168,22 @@ module _ (laws : EnoughLaws) (limits : Limits) (most : ℕ) (asked : Asked) (inp
           let pairs = pairs_within c.equations in
           omega (arith, many, low, pairs)
 
-      by : (reached.outcome.end ≡ Quiet) ⊎ ((reached.outcome.end ≡ Steps) ⊎ (1 ≤ reached.outcome.interactions)) → ⊥
-      by (inl at) =
+      told_of : still_by reached.outcome.end ≡ true → ⊥
+      told_of still = let made = e.count.none still in omega (arith, made, one)
+
+      by : (end : End) → reached.outcome.end ≡ end → ⊥
+      by Quiet at =
           let so = laws.told rs c c reached.outcome.interactions (length answer.equations) reached.outcome.name_steps [] e.ends.rule_set e.ends.over e.ends.names (told_steps at) refl quiet in
           let low = few at in
           let zero_steps = told_so reached.outcome.name_steps (0 + reached.outcome.interactions + length answer.equations < 2 ^ 64) 0 so (omega (arith, none, low)) in
-          let made = e.count.none at none zero_steps in
-          omega (arith, made, one)
-      by (inr (inl at)) =
+          told_of (ap still_by at ∙ quiet_still reached.outcome.interactions reached.outcome.name_steps none zero_steps)
+      by Steps at =
           let can = (ended_more at).1 in
           let next = laws.interaction rs c answer can.0 e.ends.reached.fired can.1 e.ends.rule_set e.ends.over e.ends.names e.ends.reached.reached can.2 in
           no_last e.ends.reached.fired can.2.active.rule (quiet_reaches rs.rules c can.0 (e.ends.reached.fired ++ can.2.active.rule ∷ []) quiet next)
-      by (inr (inr some)) = omega (arith, none, some)
+      by Nodes at = told_of (ap still_by at ∙ none_still reached.outcome.interactions none)
+      by Limit at = told_of (ap still_by at ∙ none_still reached.outcome.interactions none)
+      by Memory at = told_of (ap still_by at ∙ none_still reached.outcome.interactions none)
 
   net_after : (reached.outcome.end ≡ Quiet) ⊎ (reached.outcome.end ≡ Steps) → OneNet answer (iterate rs.rules e.taken c)
   net_after either =
@@ -209,10 +211,10 @@ module _ (laws : EnoughLaws) (limits : Limits) (most : ℕ) (asked : Asked) (inp
       named : HasNames answer
       named = laws.names rs.rules c answer e.ends.reached.fired e.ends.reached.reached
 
-      by : StoodStill reached.outcome.end reached.outcome.interactions reached.outcome.name_steps
-          ⊎ (¬ StoodStill reached.outcome.end reached.outcome.interactions reached.outcome.name_steps) → IsQuiet rs.rules (iterate rs.rules reached.rounds c)
+      by : (still_by reached.outcome.end ≡ true) ⊎ (still_by reached.outcome.end ≡ false) → IsQuiet rs.rules (iterate rs.rules reached.rounds c)
       by (inl is) =
-          transport (λ (k : ℕ). IsQuiet rs.rules (iterate rs.rules k c)) (sym (e.count.none is.0 is.1 is.2)) (still is.0 is.1 is.2)
+          let none = still_quiet reached.outcome.interactions reached.outcome.name_steps (sym (ap still_by at) ∙ is) in
+          transport (λ (k : ℕ). IsQuiet rs.rules (iterate rs.rules k c)) (sym (e.count.none is)) (still at none.0 none.1)
       by (inr isnt) =
           let d : Configuration = iterate rs.rules e.taken c in
           let one : 1 ≤ e.taken = e.rounded.ends.some at some in
@@ -226,7 +228,7 @@ module _ (laws : EnoughLaws) (limits : Limits) (most : ℕ) (asked : Asked) (inp
   steps at = (made ∙ all, λ quiet. no_interaction laws rs (iterate rs.rules e.taken c) answer e.ends.rule_set over (laws.other_way answer (iterate rs.rules e.taken c) net) (transport (λ (k : ℕ). IsQuiet rs.rules (iterate rs.rules k c)) (sym all) quiet) (ended_more at).1)
     where
       made : reached.rounds ≡ e.taken
-      made = e.count.all (λ still. steps_or_quiet (sym at ∙ still.0))
+      made = e.count.all (ap still_by at)
 
       all : e.taken ≡ most
       all = e.rounded.ends.all at

@@ -1,5 +1,5 @@
 -- Lemmas: what is told of rounds is what they fire, and how many are told.
-use Rattle.std.proofs.Common.{◌≡◌, ◌⊎◌, inl, inr, ℕ, zero, suc, ◌+◌, ◌-◌, ◌≤◌, ◌<◌, List, [], ◌∷◌, ◌++◌, Option, None, Some, length, map, sum_by, refl, sym, ap, ◌∙◌, arith, subst}
+use Rattle.std.proofs.Common.{◌≡◌, ◌⊎◌, inl, inr, ℕ, zero, suc, ◌+◌, ◌-◌, ◌≤◌, ◌<◌, List, [], ◌∷◌, ◌++◌, true, false, Option, None, Some, length, map, sum_by, refl, sym, ap, ◌∙◌, arith, subst}
 use Rattle.std.specs.List.{AllByRecursion}
 use Rattle.std.specs.Prelude.{IsPermutation, IsTrue}
 use Rattle.std.specs.Option.{option_map, option_map_or, option_to_list}
@@ -34,12 +34,11 @@ use Rattle.ic_meaning.specs.Words.{Numbers, AreNumbers}
 use Rattle.ic_in_place.specs.Holding.{AreCompiled, AreGiven}
 use Rattle.ic_in_place.specs.Stopping.{IsBegun}
 use Rattle.ic_in_place.proofs.LineByRounds.{a_round_is_settled}
-use Rattle.ic_in_place.specs.Rounds.{AreOver, AreTold, CountsRounds, FireAfterFirst, none_told, none_yet, one_told, some}
+use Rattle.ic_in_place.specs.Rounds.{AreOver, AreTold, CountsRounds, FireAfterFirst, stands_still, none_told, none_yet, one_told, some}
 use Rattle.ic_in_place.specs.Told.{IsBetween, RoundOver, figures_after, figures_by, figures_of}
-use Rattle.ic_in_place.specs.declared.running.End.{End}
-use Rattle.ic_in_place.specs.declared.running.End.TheVariants.{Quiet, Steps, Nodes, Limit, Memory}
 use Rattle.ic_in_place.specs.declared.stream.Outcome.{Outcome}
 use Rattle.ic_in_place.proofs.RoundsMade.{as_many_told}
+use Rattle.ic_in_place.proofs.Still.{still_none, still_or_not}
 
 -- as many rules fire as equations are active
 rules_active : (rs : List Rule) (i : ℕ) (es : List Pair) → length (rules_of rs es) ≡ length (active_from rs i es)
@@ -153,36 +152,17 @@ at_most_one (f ∷ made) fire none =
     let all = sum_by-cons (length {A = ℕ}) f made in
     omega (arith, rest, all, none)
 
--- no step is possible, and none was made
-abbrev pub StoodStill : End → (interactions : ℕ) → (name_steps : Option ℕ) → Type 0
-StoodStill end n steps = (end ≡ Quiet) × (n ≡ 0) × (steps ≡ Some 0)
-
-no_step : (k : ℕ) → ◌≡◌ {A = Option ℕ} (Some (suc k)) (Some 0) → ⊥
-no_step k same = let inner : suc k ≡ 0 = cc in absurd (omega (arith, inner))
-
-none_known : ◌≡◌ {A = Option ℕ} None (Some 0) → ⊥
-none_known same = cc
-
-pub stood_still : (end : End) (n : ℕ) (steps : Option ℕ) → StoodStill end n steps ⊎ (¬ StoodStill end n steps)
-stood_still Quiet zero (Some zero) = inl (refl, refl, refl)
-stood_still Quiet zero (Some (suc k)) = inr (λ is. no_step k is.2)
-stood_still Quiet zero None = inr (λ is. none_known is.2)
-stood_still Quiet (suc n) steps = inr (λ is. absurd (omega (arith, is.1)))
-stood_still Steps n steps = inr (λ is. let bad : Steps ≡ Quiet = is.0 in cc)
-stood_still Nodes n steps = inr (λ is. let bad : Nodes ≡ Quiet = is.0 in cc)
-stood_still Limit n steps = inr (λ is. let bad : Limit ≡ Quiet = is.0 in cc)
-stood_still Memory n steps = inr (λ is. let bad : Memory ≡ Quiet = is.0 in cc)
-
 pub many_told : (outcome : Outcome) (taken rounds : ℕ) (made : List (List ℕ)) (told : List RoundOver) → CountsRounds outcome taken rounds → taken ≡ length made
     → length told ≡ length made → FireAfterFirst made → sum_by (λ o. o.pairs) told ≡ sum_by length made → sum_by length made ≤ outcome.interactions
     → (length told ≡ rounds) ⊎ ((rounds ≡ 0) × (length told ≤ 1) × (sum_by (λ o. o.pairs) told ≡ 0))
 many_told outcome taken rounds made told count all many fire summed few =
-    by (stood_still outcome.end outcome.interactions outcome.name_steps)
+    by (still_or_not outcome.end outcome.interactions outcome.name_steps)
   where
-    by : StoodStill outcome.end outcome.interactions outcome.name_steps ⊎ (¬ StoodStill outcome.end outcome.interactions outcome.name_steps)
+    by : (stands_still outcome.end outcome.interactions outcome.name_steps ≡ true) ⊎ (stands_still outcome.end outcome.interactions outcome.name_steps ≡ false)
         → (length told ≡ rounds) ⊎ ((rounds ≡ 0) × (length told ≤ 1) × (sum_by (λ o. o.pairs) told ≡ 0))
     by (inl is) =
-        let no_pair : sum_by length made ≡ 0 = let none = is.1 in omega (arith, none, few) in
+        let none = still_none outcome.end outcome.interactions outcome.name_steps is in
+        let no_pair : sum_by length made ≡ 0 = omega (arith, none, few) in
         let one = at_most_one made fire no_pair in
-        inr (count.none is.0 is.1 is.2, omega (arith, one, many), omega (arith, summed, no_pair))
+        inr (count.none is, omega (arith, one, many), omega (arith, summed, no_pair))
     by (inr isnt) = let made_all = count.all isnt in inl (omega (arith, made_all, all, many))

@@ -1,5 +1,5 @@
 -- Rounds of a machine, and of a text.
-use Rattle.std.specs.Prelude.{◌≡◌, ◌⊎◌, ℕ, ◌+◌, ◌≤◌, List, [], ◌∷◌, ◌++◌, Option, Some, Ok, Err, length}
+use Rattle.std.specs.Prelude.{◌≡◌, ◌⊎◌, ℕ, ◌+◌, ◌≤◌, ◌==◌, Bool, true, false, ◌&&◌, List, [], ◌∷◌, ◌++◌, Option, None, Some, Ok, Err, length}
 use Rattle.std.specs.Io.KnownBytes.{Appends}
 use Rattle.std.specs.List.{AllByRecursion}
 use Rattle.ic_rules.specs.System.{SystemParts}
@@ -20,7 +20,7 @@ use Rattle.ic_in_place.specs.Stopping.{HasCome, IsBegun}
 use Rattle.ic_in_place.specs.Told.{RoundOver, IsBetween}
 use Rattle.ic_in_place.specs.declared.running.Bounds.{Bounds}
 use Rattle.ic_in_place.specs.declared.running.End.{End}
-use Rattle.ic_in_place.specs.declared.running.End.TheVariants.{Quiet, Steps}
+use Rattle.ic_in_place.specs.declared.running.End.TheVariants.{Quiet, Steps, Nodes, Limit, Memory}
 use Rattle.ic_in_place.specs.declared.stream.Asked.{Asked}
 use Rattle.ic_in_place.specs.declared.rounded.Rounded.{Rounded}
 use Rattle.ic_in_place.specs.declared.stream.Outcome.{Outcome}
@@ -77,11 +77,22 @@ pub record HasRounded (s : SystemParts) (most rounds : ℕ) (given by_rule : Lis
   pub ends : EndsAfter come.plans pairs most rounds end first m
   pub net : (end ≡ Quiet) ⊎ (end ≡ Steps) → IsNetOf come.held.numbers m (iterate s.rules.rules rounds s.config)
   pub rules : FireAsRounds s.rules.rules come.rule_numbers ends.made s.config
+  pub numbered : length come.rule_numbers ≡ length come.plans.plans
 
--- Of a text in which no step is possible no round is made, although the pairs of one were taken.
+-- whether no step was possible at all, or a bound or a limit came before any pair had fired
+abbrev pub stands_still : End → (interactions : ℕ) → (name_steps : Option ℕ) → Bool
+stands_still Quiet n None = false
+stands_still Quiet n (Some steps) = n == 0 && steps == 0
+stands_still Steps n steps = false
+stands_still Nodes n steps = n == 0
+stands_still Limit n steps = n == 0
+stands_still Memory n steps = n == 0
+
+-- Of a text that stands still no round is told, although the pairs of one were taken.
 pub record CountsRounds (outcome : Outcome) (taken rounds : ℕ) : Type 0 where
-  pub none : outcome.end ≡ Quiet → outcome.interactions ≡ 0 → outcome.name_steps ≡ Some 0 → rounds ≡ 0
-  pub all : ¬ ((outcome.end ≡ Quiet) × (outcome.interactions ≡ 0) × (outcome.name_steps ≡ Some 0)) → rounds ≡ taken
+  pub none : stands_still outcome.end outcome.interactions outcome.name_steps ≡ true → rounds ≡ 0
+  pub all : stands_still outcome.end outcome.interactions outcome.name_steps ≡ false
+      → rounds ≡ taken
 
 -- A text is read as a system with these limits, of which a machine made so many rounds. This is the line of the net then, and
 -- this tells of it.

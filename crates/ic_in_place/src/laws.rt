@@ -316,9 +316,9 @@ pub fn a_run_that_goes_on_stops_by_the_bounds_of_all()
 {}
 
 /// Where rounds of a text are over, and it is quiet then or as many were made as may be, the line is that of the net after as many
-/// rounds. After one round or more it is the same net, wherever fresh names begin.
+/// rounds. After one round or more it is the same net, wherever fresh names begin, and so is the configuration that is written.
 pub fn a_line_by_rounds_is_the_net_after_them()
-    ensures { (limits : Limits) (most : ℕ) (asked : Asked) (input line : List ℕ) (reached : Rounded)
+    ensures net { (limits : Limits) (most : ℕ) (asked : Asked) (input line : List ℕ) (reached : Rounded)
         (s : SystemParts) → EndsByRounds limits most asked input reached line
         → (reached.outcome.end ≡ Quiet) ⊎ (reached.outcome.end ≡ Steps) → asked ≢ Nothing
         → ReadsSystemWithin limits input (Ok s)
@@ -326,11 +326,19 @@ pub fn a_line_by_rounds_is_the_net_after_them()
         × OneNet answer (iterate s.rules.rules reached.rounds s.config)
         × (1 ≤ reached.rounds
         → SameButNext answer (iterate s.rules.rules reached.rounds s.config)) }
+    ensures written { (limits : Limits) (most : ℕ) (asked : Asked) (input line : List ℕ)
+        (reached : Rounded) (s : SystemParts) → EndsByRounds limits most asked input reached line
+        → (reached.outcome.end ≡ Quiet) ⊎ (reached.outcome.end ≡ Steps) → asked ≢ Nothing
+        → ReadsSystemWithin limits input (Ok s) → 1 ≤ reached.rounds
+        → (written : Configuration) × (line ≡ line_of s.rules.symbols written)
+        × SameButNext (iterate s.rules.rules reached.rounds s.config) written }
 {
     ic_text::laws::one_system_reading();
+    ic_reaching::laws::free_names_stay();
     ic_confluence::laws::same_is_an_equivalence();
     ic_reaching::laws::where_names_begin_is_no_matter();
     ic_reaching::laws::one_net_is_an_equivalence();
+    a_renumbered_net_is_the_same_net();
     what_is_put_together_has_no_name_step();
 }
 
@@ -354,7 +362,7 @@ pub fn what_is_told_of_rounds()
 }
 
 /// Rounds of a text are made as long as a step is possible, at most so many. Before each but the first a pair could fire. The first
-/// one was needed too, unless it was broken off before any pair had fired.
+/// one was needed too: of a text in which no step is possible none is told.
 pub fn rounds_are_made_while_a_step_is_possible()
     ensures within { (limits : Limits) (most : ℕ) (asked : Asked) (input line : List ℕ)
         (reached : Rounded) → EndsByRounds limits most asked input reached line
@@ -365,8 +373,6 @@ pub fn rounds_are_made_while_a_step_is_possible()
         → ¬ IsQuiet is.system.rules.rules (iterate is.system.rules.rules n is.system.config) }
     ensures first { (limits : Limits) (most : ℕ) (asked : Asked) (input line : List ℕ)
         (reached : Rounded) → (is : EndsByRounds limits most asked input reached line)
-        → (reached.outcome.end ≡ Quiet) ⊎ ((reached.outcome.end ≡ Steps)
-        ⊎ (1 ≤ reached.outcome.interactions))
         → 1 ≤ reached.rounds → ¬ IsQuiet is.system.rules.rules is.system.config }
     ensures quiet { (limits : Limits) (most : ℕ) (asked : Asked) (input line : List ℕ)
         (reached : Rounded) → (is : EndsByRounds limits most asked input reached line)
@@ -410,9 +416,13 @@ pub fn amounts_are_those_of_rounds()
 }
 
 /// Of each round that is told this holds of the counts of its net: what the rules of the plans made and spent that fired so often is
-/// what agents amount to after the round, beside what they amounted to in the text.
+/// what agents amount to after the round, beside what they amounted to in the text. There is a count for each of these plans.
 pub fn counts_tell_the_amounts_of_rounds()
-    ensures { (limits : Limits) (most : ℕ) (asked : Asked) (input line : List ℕ) (reached : Rounded)
+    ensures many { (limits : Limits) (most : ℕ) (asked : Asked) (input line : List ℕ)
+        (reached : Rounded) → (is : EndsByRounds limits most asked input reached line)
+        → AllByRecursion (λ o. length o.net.counts ≡ length is.rounded.come.rule_numbers)
+        is.rounded.ends.told }
+    ensures amounts { (limits : Limits) (most : ℕ) (asked : Asked) (input line : List ℕ) (reached : Rounded)
         (f : ℕ → ℕ) → (is : EndsByRounds limits most asked input reached line)
         → AllByRecursion (λ o. amount f
         (iterate is.system.rules.rules o.round is.system.config)

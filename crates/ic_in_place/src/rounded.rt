@@ -5,7 +5,7 @@ ghost use Rattle.std.specs.Io.KnownBytes.{Keeps};
 ghost use Rattle.ic_machine.specs.Plan.{ArePlans};
 ghost use Rattle.ic_meaning.specs.Plans.{ArePlansOf};
 ghost use Rattle.ic_streams.specs.Streams.{FaultOf, IsAnswered, OfText, TakesAtWithin, TakesTextWithin};
-ghost use Rattle.ic_in_place.specs.Rounds.{AppendsLineOf, CountsRounds, EndsByRounds, HasRounded, ReducesByRounds};
+ghost use Rattle.ic_in_place.specs.Rounds.{AppendsLineOf, CountsRounds, EndsByRounds, HasRounded, ReducesByRounds, stands_still};
 ghost use Rattle.ic_in_place.specs.Stopping.{arities_of};
 
 use crate::counting::{no_counts, sum_by_rule};
@@ -101,15 +101,28 @@ pub fn reduce_by_rounds<V: Watch, S: Rows<W>, W: Write>(
 }
 
 /// How many rounds were made, where so many generations were taken. Of a text in which no step is possible none is made, but the
-/// first generation was taken all the same.
+/// first generation was taken all the same. Nor is one told of where a bound or a limit came before any pair had fired.
 fn rounds_made(outcome: &Outcome, taken: u64) -> u64
     ensures { CountsRounds outcome.now taken result }
 {
-    let is_quiet = outcome.end == End::Quiet && outcome.interactions == 0;
-    if is_quiet && outcome.name_steps == Some(0) {
+    if stands_still(outcome.end, outcome.interactions, outcome.name_steps) {
         0
     } else {
         taken
+    }
+}
+
+/// Whether no step was possible at all, or a bound or a limit came before any pair had fired.
+fn stands_still(end: End, interactions: u64, name_steps: Option<u64>) -> bool
+    ensures { result ≡ stands_still end interactions name_steps }
+{
+    match end {
+        End::Quiet => match name_steps {
+            Some(steps) => interactions == 0 && steps == 0,
+            None => false,
+        },
+        End::Steps => false,
+        End::Nodes | End::Limit | End::Memory => interactions == 0,
     }
 }
 

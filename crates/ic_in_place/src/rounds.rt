@@ -139,9 +139,7 @@ pub fn run_by_rounds<V: Watch, S: Rows<W>, W: Write>(
         next: 0,
         due: names_until_sweep(machine),
     };
-    let mut generation = Generation {
-        end: pairs,
-    };
+    let mut generation = Generation { end: pairs };
     for round in 0..rounds {
         let before = machine.interactions();
         let broken = take_all(machine, program, &mut generation, gauge, &mut looks, watch);

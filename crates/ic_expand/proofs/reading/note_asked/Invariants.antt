@@ -11,7 +11,7 @@ use Rattle.ic_expand.proofs.reading.note_asked.Given as goal
 abbrev pub invariant-loop-rest : goal.invariant-loop-rest
 invariant-loop-rest l = record {
   symbols : fold noted (map symbol_in l.symbols.items) (asked l.spot (pieces l.rest))
-    ≡ fold noted (map symbol_in l.fn.symbols.items) (asked Elsewhere (pieces l.text));
+      ≡ fold noted (map symbol_in l.fn.symbols.items) (asked Elsewhere (pieces l.text));
   known : l.known ≡ texts (map symbol_in l.symbols.items);
 }
 

@@ -25,7 +25,7 @@ pub returns-clause-later : goal.returns-clause-later
 returns-clause-later c = λ limits most asked input line reached n is one low. later_needed (laws_of c) limits most asked input line reached is n one low
 
 pub returns-clause-first : goal.returns-clause-first
-returns-clause-first c = λ limits most asked input line reached is either one. first_needed (laws_of c) limits most asked input line reached is either one
+returns-clause-first c = λ limits most asked input line reached is one. first_needed (laws_of c) limits most asked input line reached is one
 
 pub returns-clause-quiet : goal.returns-clause-quiet
 returns-clause-quiet c = λ limits most asked input line reached is at some. quiet_then (laws_of c) limits most asked input line reached is at some
