@@ -188,6 +188,26 @@ class Causes(Trial):
             self.ends(server)
         self.serves(other, ["list"], ["jobs two:running:1"])
 
+    def test_scripts_whose_disk_is_gone_end_by_device_whoever_learns_it_first(self):
+        """One client's keep fails, and then the other client, which may be told first, is stopped by a broken book."""
+        scripts = []
+        for name in ("one", "two"):
+            scripts.append(self.room / name)
+            scripts[-1].write_text(f"submit {name} {LOOP.text}\n" + f"pause {name}\nresume {name}\n" * 10_000)
+        for number in range(5):
+            path = self.disk(f"{number}.disk")
+            empty = path.read_bytes()
+            pipes = {"stdin": subprocess.DEVNULL, "stdout": subprocess.PIPE, "stderr": subprocess.PIPE}
+            with subprocess.Popen([PROGRAM, "attend", "--disk", path, *scripts], **pipes) as started:
+                end = time.monotonic() + PATIENCE
+                while path.read_bytes() == empty:
+                    self.assertLess(time.monotonic(), end, "nothing is kept")
+                    time.sleep(0.01)
+                path.unlink()
+                out, told = started.communicate(timeout=PATIENCE)
+            self.equals(started.args, "status and what is told", (4, f"icserve: device\n{path}: sync: the file is gone\n"), (started.returncode, told.decode()))
+            self.equals(started.args, "whether a client was stopped by it", True, b"stopped device" in out or b"stopped broken" in out)
+
     def test_a_kept_reduction_whose_file_is_gone_ends_at_the_next_keep(self):
         """Either of its two files."""
         for place in ("", ".2"):

@@ -133,6 +133,20 @@ class Words(Trial):
             tip = f"  tip: some similar subcommands exist: {like}\n\n" if like else ""
             self.equals(ran.command, "how it ends", (2, b"", (told % (word, tip)).encode()), (ran.status, ran.out, ran.err))
 
+    def test_help_of_another_word_tells_those_that_are_like_it(self):
+        """As of a word of the program, and of those that `help` alone has."""
+        some, one = "some similar subcommands exist:", "a similar subcommand exists:"
+        likes = {"redcue": f"{some} 'reduce', 'trace'", "limit": f"{one} 'limits'", "languag": f"{one} 'language'", "xyzzy": ""}
+        for word, like in likes.items():
+            ran = run("help", word)
+            tip = f"  tip: {like}\n\n" if like else ""
+            told = f"error: unrecognized subcommand '{word}'\n\n{tip}Usage: icserve help [WORD]\n\nFor more information, try '--help'.\n"
+            self.equals(ran.command, "how it ends", (2, b"", told.encode()), (ran.status, ran.out, ran.err))
+        for word in ("--help", "-x", "--disk", ""):
+            ran = run("help", "--", word)
+            told = ran.err.decode()
+            self.equals(ran.command, "how it ends", (2, b"", True), (ran.status, ran.out, told.startswith("error: ") and "\n\nUsage: icserve help [WORD]\n" in told))
+
     def test_help_limits_tells_the_limits_of_the_page(self):
         def numbers(cell):
             return [(2 ** int(it[2]) if it[2] else int(it[3].replace(",", ""))) - bool(it[1]) for it in NUMBER.finditer(cell)]

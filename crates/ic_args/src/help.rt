@@ -3,8 +3,11 @@
 use crate::parser::command;
 use crate::rows::Entry;
 use crate::table::Word;
+use crate::tips::likest_first;
 use crate::words::{WordsFault, refusal_of, word_named};
-use std::alloc::Global;
+use clap::Command;
+use clap::error::{Error, ErrorKind};
+use std::alloc::{AllocError, Global};
 
 /// What stands at the end of the program's help.
 pub(crate) const PROGRAM: &str = "\
@@ -291,24 +294,26 @@ Example:
   $ icserve help settle
   (what icserve settle --help prints)";
 
+/// What else `help` tells of, and how.
+const TOPICS: [(&str, &str); 3] = [
+    ("language", LANGUAGE),
+    ("limits", LIMITS),
+    ("keep", KEEP),
+];
+
 /// What `help` shows of a word of the program, of what else it tells of, or of the program where there is no word. Another
-/// word is refused.
+/// word is refused, and those that are like it are told.
 pub fn help_of(alloc: Global, table: &[Entry], word: Option<&str>) -> Result<String, WordsFault> {
-    match word {
-        None => shown(alloc, table, &["--help"]),
-        Some("language") => Ok(String::from_str(alloc, LANGUAGE)?),
-        Some("keep") => Ok(String::from_str(alloc, KEEP)?),
-        Some("limits") => Ok(String::from_str(alloc, LIMITS)?),
-        Some(word) if word_named(table, word).is_some() => shown(alloc, table, &[word, "--help"]),
-        Some(word) => Err(refusal_of(
-            alloc,
-            format!(in alloc;
-                "error: unrecognized subcommand '{word}'\n\nUsage: icserve help [WORD]\n\n\
-             For more information, try '--help'.\n"
-            )?
-            .as_str(),
-        )),
+    let Some(word) = word else {
+        return shown(alloc, table, &["--help"]);
+    };
+    if let Some((_, text)) = TOPICS.iter().find(|topic| topic.0 == word) {
+        return Ok(String::from_str(alloc, text)?);
     }
+    if word_named(table, word).is_some() {
+        return shown(alloc, table, &[word, "--help"]);
+    }
+    Err(no_help(alloc, table, &[word])?)
 }
 
 /// What the parser shows at words that ask for a help.
@@ -316,5 +321,38 @@ fn shown(alloc: Global, table: &[Entry], words: &[&str]) -> Result<String, Words
     match command(alloc, table)?.try_get_matches_from(words) {
         Ok(_) => Ok(String::new(alloc)),
         Err(error) => Ok(error.to_string(alloc)?),
+    }
+}
+
+/// The refusal of a word of which there is no help, which stands alone here.
+fn no_help(alloc: Global, table: &[Entry], words: &[&str]) -> Result<WordsFault, AllocError> {
+    let told = parsers_text(alloc, table, words)?;
+    let front = match told.as_str().rsplit_once("\n\nUsage: ") {
+        Some((front, _)) => front,
+        None => "error: unrecognized subcommand",
+    };
+    let text = format!(in alloc;
+        "{front}\n\nUsage: icserve help [WORD]\n\nFor more information, try '--help'.\n"
+    )?;
+    Ok(refusal_of(alloc, text.as_str()))
+}
+
+/// What the parser tells of words that begin with none that has a help, with those that are like it.
+fn parsers_text(alloc: Global, table: &[Entry], words: &[&str]) -> Result<String, AllocError> {
+    let mut program = command(alloc, table)?;
+    for topic in &TOPICS {
+        program = program.subcommand(Command::new(alloc, topic.0))?;
+    }
+    match program.try_get_matches_from(words) {
+        Ok(_) => Ok(String::new(alloc)),
+        Err(error) => refusal_text(alloc, &error),
+    }
+}
+
+/// What the parser tells of a refusal: nothing where it would show a help.
+fn refusal_text(alloc: Global, error: &Error) -> Result<String, AllocError> {
+    match error.kind() {
+        ErrorKind::DisplayHelp => Ok(String::new(alloc)),
+        _ => likest_first(alloc, error.to_string(alloc)?.as_str()),
     }
 }

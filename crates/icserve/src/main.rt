@@ -146,7 +146,7 @@ fn attend<T: Threads + Wait + Sync>(
     if matches!(given, Err(ScriptsFault::Book(BookFault::LogFull))) {
         let _ = told.extend_from_slice(scripts::FULL);
     }
-    given.map_err(Failure::Attend)
+    given.map_err(|fault| Failure::Attend(scripts::behind(fault)))
 }
 
 /// The words after the program's name.

@@ -2,7 +2,7 @@
 
 use crate::input::open_file;
 use crate::texts::{read_limited, too_long};
-use ic_book::MAX_ENTRIES;
+use ic_book::{BookFault, MAX_ENTRIES};
 use ic_causes::{Notes, cause_line, shown_path};
 use ic_check::check_script_line;
 use ic_jobs::Command;
@@ -13,6 +13,14 @@ use std::io::{self, ErrorKind, IsTerminal, Write};
 /// What is told after `log full`.
 pub(crate) const FULL: &[u8] =
     b"the history holds 65536 commands and rounds; all that was answered is kept, and a further call goes on from there\n";
+
+/// The fault behind this one, which is told: a book is broken by a call to the disk that has failed, whoever made it.
+pub(crate) fn behind(fault: ScriptsFault) -> ScriptsFault {
+    match fault {
+        ScriptsFault::Book(BookFault::Broken) => ScriptsFault::Book(BookFault::Device),
+        _ => fault,
+    }
+}
 
 /// Reads the scripts in the files of these paths, in their order. Of the first that can't be read, or is refused, the
 /// line that says why is appended to `told`.
