@@ -34,6 +34,31 @@ def parts_of(text):
     return rules + brace, config
 
 
+def points_of(text):
+    return [tuple(map(float, it.split(","))) for it in re.findall(r"[-.\d]+,[-.\d]+", text)]
+
+
+def box_of(group):
+    """Where the box of an agent is in a picture: its left, upper, right and lower edge."""
+    across, down = zip(*points_of(group.find(f"{SVG}polygon").get("points")))
+    return min(across), min(down), max(across), max(down)
+
+
+def depth_of(point, box):
+    """How deep a point lies within a box, below 0 where it lies outside."""
+    return min(point[0] - box[0], point[1] - box[1], box[2] - point[0], box[3] - point[1])
+
+
+def curve_of(group):
+    """Points of the curves along which a wire goes."""
+    knots = points_of(group.find(f"{SVG}path").get("d"))
+    for at in range(0, len(knots) - 3, 3):
+        for step in range(21):
+            t = step / 20
+            parts = ((1 - t) ** 3, 3 * t * (1 - t) ** 2, 3 * t * t * (1 - t), t**3)
+            yield tuple(sum(part * knot[i] for part, knot in zip(parts, knots[at : at + 4])) for i in (0, 1))
+
+
 class Rows(Trial):
     rooms = IN_MEMORY
 
@@ -169,6 +194,19 @@ class Pictures(Trial):
             if answer.startswith(b"graph") and len(answer) < 20_000:
                 with self.subTest(name=name):
                     self.svg_of(answer)
+
+    def test_arrow_heads_are_at_the_edges_of_boxes_and_no_wire_crosses_its_agents(self):
+        """A head that lies in a box, and a loop that crosses a label, would be hidden or hide it. A loop goes round its box."""
+        loops = "<r,s|x=x,A(A(B,r),s)=B,y=A(y,y1),A(p,p)=q,Long(v)=v,Four(g,h,g1,h)=g,L(a,b)=M(b,a),N(c)=O(O(c)),P=P,T(e1,e2)=T(e2,e1)>"
+        for text in (loops, *(it.read_text() for it in examples())):
+            picture = xml.fromstring(self.svg_of(run("draw", given=text).out))
+            groups = {it.find(f"{SVG}title").text: it for it in picture.iter(f"{SVG}g") if it.get("class") in ("node", "edge")}
+            boxes = {name: box_of(it) for name, it in groups.items() if re.fullmatch(r"A\d+", name)}
+            for name, group in groups.items():
+                for end in {it.partition(":")[0] for it in name.split("--")} & set(boxes) if "--" in name else ():
+                    points = [*curve_of(group), *(it for head in group.iter(f"{SVG}polygon") for it in points_of(head.get("points")))]
+                    deepest = max(depth_of(it, boxes[end]) for it in points)
+                    self.equals(f"{name} of {text[:60]}", f"whether it stays out of {end}, it lies {deepest} points within", True, deepest < 2)
 
     def test_the_nets_in_docs_are_what_the_program_draws(self):
         """docs/nets/NAME-N.svg is the net of examples/NAME.ic after N rounds."""
