@@ -5,3 +5,6 @@ pub mod Active
 pub mod Interactions
 pub mod Showing
 pub mod TracedLemmas
+pub mod Circles
+pub mod RowsTold
+pub mod Changes

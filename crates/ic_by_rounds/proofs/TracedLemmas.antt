@@ -18,8 +18,6 @@ module _ (limits : Limits) (most : ℕ) (format : Format) (before after : Option
   rows_carried rounds front rest end s = record {
     system = s.system;
     reads = read_as_within limits _ _ front rest end _ s.reads;
-    rows = s.rows;
-    numbers = s.numbers;
     table = s.table;
   }
 

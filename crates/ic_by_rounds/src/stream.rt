@@ -43,6 +43,8 @@ pub fn trace_stream<V: Watch, R: Read, W: Write>(
         (λ fault. TakesAtWithin limits fault (R.remaining reader.old) (R.remaining reader.new)) }
 {
     ic_in_place::laws::what_is_told_of_rounds();
+    ic_in_place::laws::amounts_are_those_of_rounds();
+    ic_in_place::laws::counts_tell_the_amounts_of_rounds();
     let text = read_text_within(alloc, limits, reader)?;
     let mut tracing = Tracing::new(alloc, format);
     let (_, reached) = reduce_by_rounds(

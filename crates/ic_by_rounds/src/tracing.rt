@@ -1,16 +1,18 @@
 //! What is told of rounds as they come.
 
-ghost use Rattle.std.specs.Prelude.{◌≡◌, ◌⊎◌, ℕ, ◌≤◌, List, [], ◌++◌, true, false, None, IfErr, OnOk};
+ghost use Rattle.std.specs.Prelude.{◌≡◌, ◌⊎◌, ℕ, ◌≤◌, List, [], ◌++◌, true, false, None, IfErr, OnOk, length};
 ghost use Rattle.std.specs.Option.{option_to_list};
 ghost use Rattle.std.specs.List.{flat_map};
 ghost use Rattle.std.specs.Io.KnownBytes.{Appends};
 ghost use Rattle.ic_machine.specs.Net.{equations_left};
+ghost use Rattle.ic_rules.specs.System.{SystemParts};
 ghost use Rattle.ic_by_rounds.specs.Tables.{head_line, row_line};
 ghost use Rattle.ic_by_rounds.specs.declared.tracing.Format.TheVariants.{Table as Lines};
+ghost use Rattle.ic_by_rounds.specs.inner.Amounts.{AreOrigins, Tells};
 ghost use Rattle.ic_by_rounds.specs.inner.Showing.{ToldRows};
 ghost use Rattle.ic_streams.specs.declared.fault.StreamFault.TheVariants.{Memory, Write as Unwritten};
 
-use crate::amounts::{Amounts, Change, NOTHING, amounts_of, changes_of};
+use crate::amounts::Origins;
 use crate::columns::Columns;
 use crate::picture::picture;
 use crate::row::Row;
@@ -46,10 +48,8 @@ const LONG: u64 = 4_096;
 pub(crate) struct Tracing {
     alloc: Global,
     format: Format,
-    /// How many terms the interface has.
-    terms: usize,
-    begun: Amounts,
-    changes: Vec<Change>,
+    /// What the nodes and names of rows come from.
+    origins: Origins,
     before: u64,
     pub(crate) summary: Summary,
     /// What isn't written yet: the rows that were told last.
@@ -67,9 +67,7 @@ impl Tracing {
         Tracing {
             alloc,
             format,
-            terms: 0,
-            begun: NOTHING,
-            changes: Vec::new(alloc),
+            origins: Origins::new(alloc),
             before: 0,
             summary: Summary::new(0),
             unwritten: Vec::new(alloc),
@@ -81,6 +79,7 @@ impl Tracing {
     /// Drops what isn't written yet, and begins a table, if that is asked for.
     fn begin_table(&mut self) -> Result<(), AllocError>
         ensures format { self.new.format ≡ self.old.format }
+        ensures origins { self.new.origins ≡ self.old.origins }
         ensures held { self.new.held ≡ self.old.held }
         ensures line { self.old.format ≡ Lines → OnOk result
             (self.new.unwritten.items ≡ head_line) }
@@ -116,6 +115,7 @@ impl Tracing {
     /// Shows the first row, if it was held back.
     fn show_held(&mut self) -> Result<(), AllocError>
         ensures format { self.new.format ≡ self.old.format }
+        ensures origins { self.new.origins ≡ self.old.origins }
         ensures held { self.new.held ≡ None }
         ensures line { self.old.format ≡ Lines → OnOk result (self.new.unwritten.items
             ≡ self.old.unwritten.items ++ flat_map row_line (option_to_list self.old.held)) }
@@ -128,6 +128,7 @@ impl Tracing {
 
     fn show(&mut self, row: Row) -> Result<(), AllocError>
         ensures format { self.new.format ≡ self.old.format }
+        ensures origins { self.new.origins ≡ self.old.origins }
         ensures held { self.new.held ≡ self.old.held }
         ensures line { self.old.format ≡ Lines → OnOk result
             (self.new.unwritten.items ≡ self.old.unwritten.items ++ row_line row) }
@@ -142,6 +143,7 @@ impl Tracing {
 
     fn write<W: Write>(&mut self, writer: &mut W) -> Result<(), StreamFault>
         ensures format { self.new.format ≡ self.old.format }
+        ensures origins { self.new.origins ≡ self.old.origins }
         ensures held { self.new.held ≡ self.old.held }
         ensures written { OnOk result
             (Appends (W.contents writer.old) (W.contents writer.new) self.old.unwritten.items) }
@@ -156,6 +158,7 @@ impl Tracing {
     /// Writes the rows that were told, if they are many or the last of them took some time.
     fn write_if_due<W: Write>(&mut self, pairs: u64, writer: &mut W) -> Result<(), StreamFault>
         ensures format { self.new.format ≡ self.old.format }
+        ensures origins { self.new.origins ≡ self.old.origins }
         ensures held { self.new.held ≡ self.old.held }
         ensures written { OnOk result ((written : List ℕ)
             × Appends (W.contents writer.old) (W.contents writer.new) written
@@ -173,10 +176,13 @@ impl Tracing {
         ensures round { result.round ≡ round }
         ensures pairs { result.pairs ≡ pairs }
         ensures equations { result.equations ≡ equations_left machine.now }
+        ensures figures { (s : SystemParts) (numbers : List ℕ)
+            → AreOrigins s numbers self.now.origins
+            → length machine.now.counts ≡ length numbers → Tells s numbers
+            (equations_left machine.now) machine.now.counts result.nodes result.names }
     {
         let equations = machine.equations_left();
-        let amounts = self.begun.after(&self.changes, machine.fired());
-        let figures = amounts.figures(self.terms, equations);
+        let figures = self.origins.figures(equations, machine.fired());
         Row {
             round,
             pairs,
@@ -198,7 +204,8 @@ fn is_bare_first(round: u64, pairs: u64) -> bool
 impl<W: Write> Rows<W> for Tracing {
     ghost fails = { λ fault. (fault ≡ Memory) ⊎ (fault ≡ Unwritten) };
 
-    ghost tells = { λ s numbers first t before now told. ToldRows first t before now told };
+    ghost tells = { λ s numbers first t before now told.
+        ToldRows s numbers first t before now told };
 
     fn begin(
         &mut self,
@@ -206,9 +213,8 @@ impl<W: Write> Rows<W> for Tracing {
         system: &WideSystem,
         numbers: &[u32],
     ) -> Result<(), AllocError> {
-        self.terms = system.config().interface_len();
-        self.begun = amounts_of(system);
-        self.changes = changes_of(alloc, system.rules(), numbers)?;
+        let origins = Origins::of(alloc, system, numbers)?;
+        self.origins = origins;
         self.before = system.config().nodes();
         self.summary = Summary::new(self.before);
         self.held = None;

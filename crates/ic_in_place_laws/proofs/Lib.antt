@@ -1,3 +1,4 @@
 pub mod Again
 pub mod Left
 pub mod Traced
+pub mod RowsOf

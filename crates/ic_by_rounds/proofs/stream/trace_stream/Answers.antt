@@ -1,3 +1,6 @@
+use Rattle.ic_generations.specs.Figures.{arity_of}
+use Rattle.ic_by_rounds.specs.inner.Amounts.{one_each}
+use Rattle.ic_by_rounds.proofs.RowsTold.{AmountLaws}
 use Rattle.ic_by_rounds.proofs.Showing.{wrote}
 use Rattle.ic_by_rounds.proofs.TracedLemmas.{refused, told, unread, untold}
 use Rattle.ic_by_rounds.proofs.stream.trace_stream.Goals as goal
@@ -16,18 +19,26 @@ pub returns-clause-traced : goal.returns-clause-traced
 returns-clause-traced g c =
     let line = c.in_ok-reached.ensures.line in
     let ends = line.0 in
-    let rs = ends.system.rules.rules in
     let law = c.what_is_told_of_rounds.ensures in
     let rounds = c.in_ok-reached.reached.rounds in
     let fired = law.figures c.args.limits c.args.bounds.rounds _ _ _ c.in_ok-reached.reached ends in
     let many = law.many c.args.limits c.args.bounds.rounds _ _ _ c.in_ok-reached.reached ends in
-    let rows = wrote rs ends.system.config c.new-tracing.result _ _ _ _ ends.rounded.ends.told line.1 fired c.args.format rounds c.new-tracing.ensures many
+    let amounts = c.amounts_are_those_of_rounds.ensures in
+    let counts = c.counts_tell_the_amounts_of_rounds.ensures in
+    let s = ends.system in
+    let numbers = ends.rounded.come.rule_numbers in
+    let laws : AmountLaws s numbers ends.rounded.ends.told = record {
+      many = counts.many c.args.limits c.args.bounds.rounds _ _ _ c.in_ok-reached.reached ends;
+      arities = counts.amounts c.args.limits c.args.bounds.rounds _ _ _ c.in_ok-reached.reached (arity_of s.rules.symbols) ends;
+      agents = counts.amounts c.args.limits c.args.bounds.rounds _ _ _ c.in_ok-reached.reached one_each ends;
+      nodes = λ n. amounts.nodes s.rules n s.config ends.ends.rule_set ends.ends.over;
+      names = amounts.names;
+    } in
+    let table = wrote s numbers c.new-tracing.result _ _ _ _ ends.rounded.ends.told line.1 laws fired c.args.format rounds c.new-tracing.ensures many
     c.in_ok-end.ensures.all c.in_ok-end.ensures.none in
     told c.args.limits c.args.bounds.rounds c.args.format _ _ (record { reached = c.in_ok-reached.reached; summary = c.end.new.self.summary }) _ _ _ _ _ c.in_ok-text.ensures.text c.deref.ensures.value ends
     (record {
       system = ends.system;
       reads = ends.reads;
-      rows = rows.rows;
-      numbers = rows.numbers;
-      table = rows.table;
+      table = table;
     })

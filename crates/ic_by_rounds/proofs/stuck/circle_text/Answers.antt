@@ -1,4 +1,4 @@
-use Rattle.std.proofs.Common.{◌≡◌, length, sym, ap, subst, arith}
+use Rattle.std.proofs.Common.{length, sym, ap, subst, arith}
 use Rattle.ic_flat.specs.Words.{forest, IsWhole}
 use Rattle.ic_flat.specs.lemmas.WordLaws.{whole-words}
 use Rattle.ic_flat.specs.lemmas.FlatLaws.{all_terms, counted-configuration_words}
