@@ -295,11 +295,7 @@ Example:
   (what icserve settle --help prints)";
 
 /// What else `help` tells of, and how.
-const TOPICS: [(&str, &str); 3] = [
-    ("language", LANGUAGE),
-    ("limits", LIMITS),
-    ("keep", KEEP),
-];
+const TOPICS: [(&str, &str); 3] = [("language", LANGUAGE), ("limits", LIMITS), ("keep", KEEP)];
 
 /// What `help` shows of a word of the program, of what else it tells of, or of the program where there is no word. Another
 /// word is refused, and those that are like it are told.

@@ -2,3 +2,4 @@ pub mod Again
 pub mod Left
 pub mod Traced
 pub mod RowsOf
+pub mod GoingOn

@@ -1,0 +1,58 @@
+-- Lemmas: rounds that go on from the net of other rounds.
+use Rattle.std.proofs.Common.{◌≡◌, ℕ, zero, suc, ◌+◌, List, [], ◌∷◌, ◌++◌, Option, None, Some, length, refl, sym, ap, ◌∙◌, arith, subst as transport}
+use Rattle.std.specs.Option.{option_map, option_map_or, option_to_list}
+use Rattle.std.specs.Prelude.{IsPermutation, IsTrue}
+use Rattle.std.proofs.lemmas.List.Sorted.{length_permutation}
+use Rattle.ic_term.specs.Tree.{Pair}
+use Rattle.ic_term.specs.Configuration.{Configuration}
+use Rattle.ic_term.specs.Symbol.{is_over}
+use Rattle.ic_rules.specs.Rule.{Rule}
+use Rattle.ic_rules.specs.RuleSet.{IsRuleSet, Rules}
+use Rattle.ic_round.specs.ActivePlaces.{active, active_from}
+use Rattle.ic_round.specs.Firing.{Active, active_pair}
+use Rattle.ic_round.specs.Naming.{HasNames}
+use Rattle.ic_round.specs.Rounds.{iterate, round}
+use Rattle.ic_generations.specs.Firings.{rules_of}
+use Rattle.ic_reaching.specs.OneNet.{SameButNext}
+
+-- rounds, and then more of them
+pub rounds_on : (rs : List Rule) (m n : ℕ) (c : Configuration) → iterate rs (m + n) c ≡ iterate rs m (iterate rs n c)
+rounds_on rs zero n c = let same : 0 + n ≡ n = omega arith in ap (λ (k : ℕ). iterate rs k c) same
+rounds_on rs (suc m) n c = let same : suc m + n ≡ suc (m + n) = omega arith in ap (λ (k : ℕ). iterate rs k c) same ∙ ap (round rs) (rounds_on rs m n c)
+
+-- as many rules fire as equations are active
+rules_active : (rs : List Rule) (i : ℕ) (es : List Pair) → length (rules_of rs es) ≡ length (active_from rs i es)
+rules_active rs i [] = refl
+rules_active rs i (p ∷ es) = at (active_pair rs p) (rules_active rs (i + 1) es)
+  where
+    at : (o : Option Active) → length (rules_of rs es) ≡ length (active_from rs (i + 1) es)
+        → length (option_to_list (option_map (λ a. a.rule) o) ++ rules_of rs es)
+        ≡ length (option_map_or (λ a. i ∷ active_from rs (i + 1) es) o (active_from rs (i + 1) es))
+    at None rest = rest
+    at (Some a) rest = omega (arith, rest)
+
+-- what laws say of rounds
+pub record RoundLaws : Type 0 where
+  pub over : (rs : Rules) (n : ℕ) (c : Configuration) → IsRuleSet rs → IsTrue (is_over rs.symbols c) → IsTrue (is_over rs.symbols (iterate rs.rules n c))
+  pub names : (rs : Rules) (n : ℕ) (c : Configuration) → IsRuleSet rs → IsTrue (is_over rs.symbols c) → HasNames c → HasNames (iterate rs.rules n c)
+  pub rounds : (rs : Rules) (n : ℕ) (c d : Configuration) → IsRuleSet rs → IsTrue (is_over rs.symbols c) → HasNames c → HasNames d → SameButNext c d
+      → SameButNext (iterate rs.rules n c) (iterate rs.rules n d)
+  pub rules : (rs : Rules) (c d : Configuration) → IsRuleSet rs → IsTrue (is_over rs.symbols c) → HasNames c → SameButNext c d
+      → IsPermutation (rules_of rs.rules c.equations) (rules_of rs.rules d.equations)
+
+module _ (laws : RoundLaws) (rs : Rules) (n m : ℕ) (c d : Configuration) (set : IsRuleSet rs) (over : IsTrue (is_over rs.symbols c)) (named : HasNames c) where
+  pub net_on : HasNames d → SameButNext (iterate rs.rules n c) d → SameButNext (iterate rs.rules (m + n) c) (iterate rs.rules m d)
+  net_on named_too same =
+      transport (λ (e : Configuration). SameButNext e (iterate rs.rules m d)) (sym (rounds_on rs.rules m n c))
+      (laws.rounds rs m (iterate rs.rules n c) d set (laws.over rs n c set over) (laws.names rs n c set over named) named_too same)
+
+  pub rules_on : HasNames d → SameButNext (iterate rs.rules n c) d → IsPermutation (rules_of rs.rules (iterate rs.rules (m + n) c).equations) (rules_of rs.rules (iterate rs.rules m d).equations)
+  rules_on named_too same =
+      laws.rules rs (iterate rs.rules (m + n) c) (iterate rs.rules m d) set (laws.over rs (m + n) c set over) (laws.names rs (m + n) c set over named) (net_on named_too same)
+
+  pub pairs_on : HasNames d → SameButNext (iterate rs.rules n c) d → length (active rs.rules (iterate rs.rules m d)) ≡ length (active rs.rules (iterate rs.rules (m + n) c))
+  pairs_on named_too same =
+      let moved = length_permutation (rules_of rs.rules (iterate rs.rules (m + n) c).equations) (rules_of rs.rules (iterate rs.rules m d).equations) (rules_on named_too same) in
+      let before = rules_active rs.rules 0 (iterate rs.rules (m + n) c).equations in
+      let after = rules_active rs.rules 0 (iterate rs.rules m d).equations in
+      omega (arith, moved, before, after)
