@@ -116,6 +116,13 @@ class Bounds(Trial):
         memory, _ = self.taken_of("serve", "--disk", disk, lines=b"run 1\nfetch a\n", times=3_000)
         self.below("bytes of a job that is shown 3,000 times", 200 * MEGABYTE, memory)
 
+    def test_a_server_of_jobs_that_grow_takes_little_memory(self):
+        """Each round of a job makes 32 nodes more, and several threads make rounds ahead."""
+        text = "{A(n,B(x))><B(A(S(S(S(S(n)))),x))} <|" + ",".join(f"A(Z,x{it})=B(x{it})" for it in range(8)) + ">"
+        lines = "".join(f"submit j{it} {text}\n" for it in range(32)) + "run 7000\n"
+        memory, _ = self.taken("serve", "--disk", self.disk(), "--workers", 4, given=lines)
+        self.below("bytes of 32 jobs that grow to 7,000 nodes", 60 * MEGABYTE, memory)
+
     def test_twice_the_text_takes_twice_the_time(self):
         def numeral(count):
             return "S(" * count + "Z" + ")" * count

@@ -2,7 +2,7 @@
 
 ghost use Rattle.std.specs.Prelude.{◌≡◌, ◌+◌, ◌≤◌, IfOk, vec_len, vec_capacity};
 
-use crate::limits::MAX_FLIGHTS;
+use crate::limits::{LAP_WORDS, MAX_FLIGHTS};
 use crate::tasks::{Done, Post, Task, stand};
 use crossbeam_channel::{Receiver, Sender, bounded};
 use ic_flat_round::Workspace;
@@ -65,12 +65,14 @@ impl Hands {
 
     /// Sends a task for each flight. Answers how many went out.
     fn send<R: Wait>(&self, rt: &R, flights: Vec<Flight>, rounds: usize) -> usize {
+        let words = LAP_WORDS / flights.len().max(1);
         let mut sent: usize = 0;
         for (place, flight) in flights.into_iter().enumerate() {
             let task = Task {
                 place,
                 flight,
                 rounds,
+                words,
             };
             if self.tasks.send(rt, task).is_err() {
                 return sent;

@@ -13,5 +13,5 @@ mod rounds;
 mod tasks;
 
 pub use laps::Laps;
-pub use limits::{MAX_FLIGHTS, MAX_WORKERS};
+pub use limits::{LAP_WORDS, MAX_FLIGHTS, MAX_WORKERS};
 pub use rounds::is_round_of;

@@ -8,12 +8,14 @@ use ic_pool::play_in;
 use std::alloc::{AllocError, Global};
 use std::sync::Wait;
 
-/// Rounds that are to be made, so many from a flight on, and the place of that in the lap.
+/// Rounds that are to be made, so many from a flight on, until the nets after them have so many words. The place is that of the
+/// flight in the lap.
 #[derive(Drop)]
 pub(crate) struct Task {
     pub place: usize,
     pub flight: Flight,
     pub rounds: usize,
+    pub words: usize,
 }
 
 /// What became of a task: the rounds that were made, the last one first.
@@ -37,19 +39,21 @@ impl Task {
             place,
             flight,
             rounds,
+            words,
         } = self;
         let mut made = Vec::new(alloc);
-        let _ = make_each(alloc, flight, rounds, workspace, &mut made);
+        let _ = make_each(alloc, flight, rounds, words, workspace, &mut made);
         made.reverse();
         Done { place, made }
     }
 }
 
-/// Makes rounds one after the other.
+/// Makes rounds one after the other, until the nets after them have so many words.
 fn make_each(
     alloc: Global,
     mut flight: Flight,
     rounds: usize,
+    mut words: usize,
     workspace: &mut Workspace,
     made: &mut Vec<Played>,
 ) -> Result<(), AllocError> {
@@ -59,7 +63,8 @@ fn make_each(
         };
         flight = next_flight(flight.place(), &played)?;
         made.push(played)?;
-        if quiet(flight.rules(), flight.config()) {
+        words = words.saturating_sub(flight.config().words().len());
+        if words == 0 || quiet(flight.rules(), flight.config()) {
             return Ok(());
         }
     }

@@ -15,8 +15,5 @@ pub(crate) const ENOUGH_EACH: usize = 8;
 /// So is one of more words than these for each equation.
 pub(crate) const MOST_WORDS: usize = 64;
 
-/// A lap makes so many rounds of each job that these are the words of all, as they stand before it.
-pub(crate) const LAP_WORDS: usize = 262_144;
-
-/// But no more than these.
+/// A lap makes no more rounds of each job than these.
 pub(crate) const MOST_ROUNDS: usize = 256;

@@ -6,13 +6,13 @@ ghost use Rattle.ic_pool.specs.Played.{played};
 ghost use Rattle.ic_pool.specs.PoolFault.{Answers};
 ghost use Rattle.ic_pool.specs.Workers.{ByWorkers, played_by};
 
-use crate::limits::{ENOUGH, ENOUGH_EACH, LAP_WORDS, MOST_ROUNDS, MOST_WORDS};
+use crate::limits::{ENOUGH, ENOUGH_EACH, MOST_ROUNDS, MOST_WORDS};
 use ic_book::Book;
 use ic_disk::Disk;
 use ic_flat_round::Workspace;
 use ic_flights::{Flight, Played};
 use ic_jobs::{Job, MAX_JOBS, State};
-use ic_laps::Laps;
+use ic_laps::{LAP_WORDS, Laps};
 use ic_pool::{PoolFault, play_in};
 use std::alloc::{AllocError, Global};
 use std::sync::Wait;
