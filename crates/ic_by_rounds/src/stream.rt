@@ -1,6 +1,7 @@
 //! Tracing what a reader gives.
 
-ghost use Rattle.std.specs.Prelude.{IfErr, OnOk};
+ghost use Rattle.std.specs.Prelude.{◌≢◌, IfErr, OnOk};
+ghost use Rattle.std.specs.Io.KnownBytes.{Keeps};
 ghost use Rattle.ic_streams.specs.Streams.{OfText, TakesAtWithin, TakesTextWithin};
 ghost use Rattle.ic_by_rounds.specs.Traces.{IsTraced};
 
@@ -37,6 +38,9 @@ pub fn trace_stream<V: Watch, R: Read, W: Write>(
     ensures traced { OfText (R.remaining reader.old)
         (λ text. IsTraced limits bounds.rounds format text result
         (W.contents writer.old) (W.contents writer.new)) }
+    // A text that is refused is refused before anything is written.
+    ensures silent { IfErr result (λ fault. fault ≢ StreamFault.Memory → fault ≢ StreamFault.Write
+        → Keeps (W.contents writer.old) (W.contents writer.new)) }
     ensures taken { OnOk result
         (TakesTextWithin limits (R.remaining reader.old) (R.remaining reader.new)) }
     ensures taken_at_fault { IfErr result

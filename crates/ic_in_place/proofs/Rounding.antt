@@ -1,5 +1,5 @@
 -- Lemmas: a machine that has made rounds of a system.
-use Rattle.std.proofs.Common.{◌≡◌, ℕ, suc, ◌<◌, ◌≤◌, ◌^◌, List, [], length, map, refl, arith}
+use Rattle.std.proofs.Common.{◌≡◌, ℕ, suc, ◌<◌, ◌≤◌, ◌^◌, List, [], length, map, refl, ap, arith}
 use Rattle.std.specs.List.{AllByRecursion}
 use Rattle.std.specs.Prelude.{◌↔◌, Contains, IsTrue}
 use Rattle.ic_term.specs.Configuration.{Configuration, configuration_names, occurrences}
@@ -80,6 +80,7 @@ rounded_so law s most rounds nodes numbers p given plan operands pairs old m end
         ends = ends;
         net = λ over. held.1 (ends.whole over);
         rules = held.2;
+        counted = ap (map (rule_number numbers)) ends.all_fired;
         numbered = numbered;
       },
       holds,

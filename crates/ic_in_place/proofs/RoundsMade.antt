@@ -1,8 +1,9 @@
 -- Lemmas: rounds of a machine, one after the other.
-use Rattle.std.proofs.Common.{◌≡◌, ◌⊎◌, inl, inr, ℕ, zero, suc, ◌+◌, ◌≤◌, List, [], ◌∷◌, ◌++◌, length, take, refl, sym, ap, arith, subst}
-use Rattle.std.specs.List.{AllByRecursion}
+use Rattle.std.proofs.Common.{◌≡◌, ◌⊎◌, inl, inr, ℕ, zero, suc, ◌+◌, ◌≤◌, List, [], ◌∷◌, ◌++◌, length, take, refl, sym, ap, ◌∙◌, arith, subst}
+use Rattle.std.specs.List.{AllByRecursion, concat}
 use Rattle.std.specs.Prelude.{Contains}
-use Rattle.std.proofs.lemmas.List.{length-append}
+use Rattle.std.proofs.lemmas.List.{append-nil, length-append}
+use Rattle.std.proofs.lemmas.List.Folds.{concat-append}
 use Rattle.std.proofs.lemmas.List.Sorted.{Contains-permutation}
 use Rattle.ic_arena.specs.Piece.{Piece}
 use Rattle.ic_machine.specs.declared.equation.Equation.{Equation}
@@ -11,7 +12,7 @@ use Rattle.ic_machine.specs.Generations.{Advances, Takes, beside, ended, fires, 
 use Rattle.ic_machine.specs.Net.{Net, HasNext, IsActive, IsStuck, equated_of}
 use Rattle.ic_machine.specs.Plan.{Plans}
 use Rattle.ic_machine.specs.Runs.{Ran}
-use Rattle.ic_machine.specs.lemmas.RunsOn.{ran_none, ran_none-fired, ran_on}
+use Rattle.ic_machine.specs.lemmas.RunsOn.{ran_none, ran_none-fired, ran_on, ran_on-fired}
 use Rattle.ic_in_place.specs.declared.running.End.{End}
 use Rattle.ic_in_place.specs.declared.running.End.TheVariants.{Quiet, Steps}
 use Rattle.ic_meaning.specs.InPlace.{AreRounds, begun, goes_on, next_round}
@@ -47,6 +48,17 @@ takes_active p _ _ _ _ _ e (fires d now es left i is xs before after ys order t 
 takes_active p _ _ _ _ _ e (stays d now es left is xs before ys order t stuck r) none there active =
     takes_active p es left is (equated_of d ∷ before) ys e r none
     (among_others p es d e active stuck (Contains-permutation now (d ∷ es) e order there)) active
+
+-- ---- what fired
+
+concat_next : (ms : List (List ℕ)) (fired : List ℕ) → concat (ms ++ fired ∷ []) ≡ concat ms ++ fired
+concat_next ms fired = concat-append ms (fired ∷ []) ∙ ap (λ (l : List ℕ). concat ms ++ l) (append-nil fired)
+
+-- in rounds, and since
+fired_since : (p : Plans) (pairs rounds : ℕ) (g : Generation) (first old new : Net) (b : RoundBegins p pairs rounds g first old) (ran : Ran p old new)
+    → (ran_on p first old new b.ran ran).fired ≡ concat b.made ++ ran.fired
+fired_since p pairs rounds g first old new b ran =
+    ran_on-fired p first old new b.ran ran ∙ ap (λ (l : List ℕ). l ++ ran.fired) b.fired
 
 -- ---- one round more
 
@@ -132,6 +144,7 @@ first_begins p pairs m few P holds = (
     active = inl refl;
     within = few;
     ran = ran_none p m;
+    fired = ran_none-fired p m;
   },
   holds,
 )
@@ -154,6 +167,7 @@ next_begins p pairs rounds g h first old new b a over between active P holds =
       active = inr (subst (AreSomeActive p) (sym (all_taken new.pending)) active);
       within = omega arith;
       ran = ran_on p first old new b.ran a.ran;
+      fired = fired_since p pairs rounds g first old new b a.ran ∙ sym (concat_next b.made a.ran.fired);
     } in
     (next, holds)
 
@@ -179,6 +193,8 @@ ends_within p pairs most rounds end g h first old new b a few quiet steps P hold
     are_told = b.are_told;
     ran = ran_on p first old new b.ran a.ran;
     since = a.ran;
+    all_fired = fired_since p pairs rounds g first old new b a.ran;
+    under_way = inr (h, goes_on b.made [] g h old new b.are a);
     whole = neither end quiet steps;
     quiet = λ is. absurd (quiet is);
     some = λ is. absurd (quiet is);
@@ -206,6 +222,11 @@ ends_quiet p pairs most rounds g h first old new b a over few between stuck P ho
         are_told = done.are_told;
         ran = ran_on p first old new b.ran a.ran;
         since = ran_none p new;
+        all_fired = fired_since p pairs rounds g first old new b a.ran
+            ∙ (sym (concat_next b.made a.ran.fired)
+            ∙ (sym (append-nil (concat (b.made ++ a.ran.fired ∷ [])))
+            ∙ ap (λ (l : List ℕ). concat (b.made ++ a.ran.fired ∷ []) ++ l) (sym (ran_none-fired p new))));
+        under_way = inl (ran_none-fired p new);
         whole = λ is. ran_none-fired p new;
         quiet = λ is. stuck;
         some = λ is one. omega arith;
@@ -231,6 +252,8 @@ ends_all p pairs most end g first last new b ran none quiet more P holds = (
     are_told = b.are_told;
     ran = ran_on p first last new b.ran ran;
     since = ran;
+    all_fired = fired_since p pairs most g first last new b ran;
+    under_way = inl none;
     whole = λ is. none;
     quiet = quiet;
     some = λ is one. one;

@@ -1,7 +1,7 @@
 -- Rounds of a machine, and of a text.
-use Rattle.std.specs.Prelude.{◌≡◌, ◌⊎◌, ℕ, ◌+◌, ◌≤◌, ◌==◌, Bool, true, false, ◌&&◌, List, [], ◌∷◌, ◌++◌, Option, None, Some, Ok, Err, length}
+use Rattle.std.specs.Prelude.{◌≡◌, ◌⊎◌, ℕ, ◌+◌, ◌≤◌, ◌==◌, Bool, true, false, ◌&&◌, List, [], ◌∷◌, ◌++◌, Option, None, Some, Ok, Err, length, map}
 use Rattle.std.specs.Io.KnownBytes.{Appends}
-use Rattle.std.specs.List.{AllByRecursion}
+use Rattle.std.specs.List.{AllByRecursion, concat}
 use Rattle.ic_rules.specs.System.{SystemParts}
 use Rattle.ic_round.specs.Rounds.{iterate}
 use Rattle.ic_text.specs.SystemText.{ReadsSystemWithin}
@@ -14,6 +14,7 @@ use Rattle.ic_machine.specs.Runs.{Ran}
 use Rattle.ic_meaning.specs.First.{LinksPairsFirst}
 use Rattle.ic_meaning.specs.Generations.{FireAsRounds}
 use Rattle.ic_meaning.specs.InPlace.{AreRounds}
+use Rattle.ic_meaning.specs.Plans.{rule_number}
 use Rattle.ic_in_place.specs.Holding.{IsNetOf}
 use Rattle.ic_in_place.specs.Reductions.{EndsOf}
 use Rattle.ic_in_place.specs.Stopping.{HasCome, IsBegun}
@@ -45,8 +46,8 @@ FireAfterFirst [] = Unit {0}
 FireAfterFirst (first ∷ others) = AllByRecursion (λ fired. 1 ≤ length fired) others
 
 -- So many rounds are over, at most as many as may be made, and they are told. At a quiet end no pair is left that could fire. Where as many were
--- made as may be, the last pair that is left can fire. In both cases no pair has fired since. Any other end comes within a
--- round, or as it is over.
+-- made as may be, the last pair that is left can fire. In both cases no pair has fired since. Where some have, they are of the
+-- next round, which is under way. What fired is what fired in these rounds, and since.
 pub record EndsAfter (p : Plans) (pairs most rounds : ℕ) (end : End) (first new : Net) : Type 0 where
   pub made : List (List ℕ)
   pub last : Net
@@ -58,7 +59,10 @@ pub record EndsAfter (p : Plans) (pairs most rounds : ℕ) (end : End) (first ne
   pub are_told : AreTold p first pairs made told
   pub ran : Ran p first new
   pub since : Ran p last new
+  pub all_fired : ran.fired ≡ concat made ++ since.fired
   pub whole : (end ≡ Quiet) ⊎ (end ≡ Steps) → since.fired ≡ []
+  pub under_way : (since.fired ≡ [])
+      ⊎ ((g : Generation) × AreRounds p first pairs made since.fired g new)
   pub quiet : end ≡ Quiet → AllByRecursion (IsStuck p) new.pending
   pub some : end ≡ Quiet → 1 ≤ most → 1 ≤ rounds
   pub all : end ≡ Steps → rounds ≡ most
@@ -66,7 +70,7 @@ pub record EndsAfter (p : Plans) (pairs most rounds : ℕ) (end : End) (first ne
 
 -- A machine began with the configuration of a system, whose equations of two agents are pending first. So many rounds of it are
 -- over, at most as many as may be made, and each has fired as many pairs by each rule as the round does. If none has fired since,
--- the machine holds the net of the configuration after these.
+-- the machine holds the net of the configuration after these. What is counted by rule is what fired in these rounds, and since.
 pub record HasRounded (s : SystemParts) (most rounds : ℕ) (given by_rule : List ℕ) (m : Net) (end : End) : Type 0 where
   pub bounds : Bounds
   pub come : HasCome s bounds given by_rule m end
@@ -77,6 +81,8 @@ pub record HasRounded (s : SystemParts) (most rounds : ℕ) (given by_rule : Lis
   pub ends : EndsAfter come.plans pairs most rounds end first m
   pub net : (end ≡ Quiet) ⊎ (end ≡ Steps) → IsNetOf come.held.numbers m (iterate s.rules.rules rounds s.config)
   pub rules : FireAsRounds s.rules.rules come.rule_numbers ends.made s.config
+  pub counted : come.fired
+      ≡ map (rule_number come.rule_numbers) (concat ends.made ++ ends.since.fired)
   pub numbered : length come.rule_numbers ≡ length come.plans.plans
 
 -- whether no step was possible at all, or a bound or a limit came before any pair had fired

@@ -87,6 +87,8 @@ pub fn reduce_by_rounds<V: Watch, S: Rows<W>, W: Write>(
     ensures refused { IfErr result (λ fault.
         (FaultOf (ReducesByRounds limits bounds.rounds asked) text.now fault
         × (fault ≢ StreamFault.Write) × (fault ≢ StreamFault.Read)) ⊎ S.fails fault) }
+    ensures silent { IfErr result (λ fault. ¬ S.fails fault → fault ≢ StreamFault.Memory
+        → Keeps (W.contents writer.old) (W.contents writer.new)) }
 {
     let system = match find_wide_system(alloc, limits, text) {
         Ok(found) => found,

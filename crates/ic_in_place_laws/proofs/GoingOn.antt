@@ -1,10 +1,11 @@
 -- Lemmas: rounds that go on from the net of other rounds.
-use Rattle.std.proofs.Common.{◌≡◌, ℕ, zero, suc, ◌+◌, List, [], ◌∷◌, ◌++◌, Option, None, Some, length, refl, sym, ap, ◌∙◌, arith, subst as transport}
+use Rattle.std.proofs.Common.{◌≡◌, ℕ, zero, suc, ◌+◌, ◌<◌, List, [], ◌∷◌, ◌++◌, Option, None, Some, length, refl, sym, ap, ◌∙◌, arith, subst as transport}
+use Rattle.std.specs.List.{AllByRecursion}
 use Rattle.std.specs.Option.{option_map, option_map_or, option_to_list}
 use Rattle.std.specs.Prelude.{IsPermutation, IsTrue}
 use Rattle.std.proofs.lemmas.List.Sorted.{length_permutation}
 use Rattle.ic_term.specs.Tree.{Pair}
-use Rattle.ic_term.specs.Configuration.{Configuration}
+use Rattle.ic_term.specs.Configuration.{Configuration, configuration_names}
 use Rattle.ic_term.specs.Symbol.{is_over}
 use Rattle.ic_rules.specs.Rule.{Rule}
 use Rattle.ic_rules.specs.RuleSet.{IsRuleSet, Rules}
@@ -13,7 +14,8 @@ use Rattle.ic_round.specs.Firing.{Active, active_pair}
 use Rattle.ic_round.specs.Naming.{HasNames}
 use Rattle.ic_round.specs.Rounds.{iterate, round}
 use Rattle.ic_generations.specs.Firings.{rules_of}
-use Rattle.ic_reaching.specs.OneNet.{SameButNext}
+use Rattle.ic_confluence.specs.Sameness.{Same}
+use Rattle.ic_reaching.specs.OneNet.{SameButNext, raised}
 
 -- rounds, and then more of them
 pub rounds_on : (rs : List Rule) (m n : ℕ) (c : Configuration) → iterate rs (m + n) c ≡ iterate rs m (iterate rs n c)
@@ -39,6 +41,23 @@ pub record RoundLaws : Type 0 where
       → SameButNext (iterate rs.rules n c) (iterate rs.rules n d)
   pub rules : (rs : Rules) (c d : Configuration) → IsRuleSet rs → IsTrue (is_over rs.symbols c) → HasNames c → SameButNext c d
       → IsPermutation (rules_of rs.rules c.equations) (rules_of rs.rules d.equations)
+
+-- names stay below a number that is raised
+still_below : (next more : ℕ) (ns : List ℕ) → AllByRecursion (λ n. n < next) ns → AllByRecursion (λ n. n < next + more) ns
+still_below next more [] all = all
+still_below next more (n ∷ ns) all = (let low = all.0 in omega (arith, low), still_below next more ns all.1)
+
+raised_names : (more : ℕ) (c : Configuration) → HasNames c → HasNames (raised more c)
+raised_names more c named = record { below = still_below c.next more (configuration_names c) named.below; twice = named.twice }
+
+-- a configuration of the same net keeps names where its fresh ones begin high enough
+pub named_above : ((c d : Configuration) → Same c d → HasNames c → HasNames d) → (c d : Configuration) → HasNames c → (same : SameButNext c d)
+    → HasNames (raised same.others d) × SameButNext c (raised same.others d)
+named_above law c d named same = (
+  law (raised same.more c) (raised same.others d) same.same (raised_names same.more c named),
+  let next : (d.next + same.others) + 0 ≡ d.next + same.others = omega arith in
+  record { more = same.more; others = 0; same = transport (λ (n : ℕ). Same (raised same.more c) (record d { next = n })) (sym next) same.same },
+)
 
 module _ (laws : RoundLaws) (rs : Rules) (n m : ℕ) (c d : Configuration) (set : IsRuleSet rs) (over : IsTrue (is_over rs.symbols c)) (named : HasNames c) where
   pub net_on : HasNames d → SameButNext (iterate rs.rules n c) d → SameButNext (iterate rs.rules (m + n) c) (iterate rs.rules m d)

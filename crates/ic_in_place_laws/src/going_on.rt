@@ -44,13 +44,14 @@ pub fn rounds_go_on_between_two()
         → (reached.outcome.end ≡ Quiet) ⊎ (reached.outcome.end ≡ Steps) → asked ≢ Nothing
         → ReadsSystemWithin limits input (Ok s) → 1 ≤ reached.rounds
         → (written : Configuration) × (line ≡ line_of s.rules.symbols written)
-        × (HasNames written → SameButNext
+        × HasNames written × SameButNext
         (iterate s.rules.rules (m + reached.rounds) s.config)
-        (iterate s.rules.rules m written)) }
+        (iterate s.rules.rules m written) }
 {
     ic_text::laws::one_system_reading();
     ic_round::laws::chains_are_steps();
     ic_round::laws::rounds_are_steps();
+    ic_confluence::laws::same_nets_take_the_same_name_steps();
     ic_generations::laws::where_names_begin_is_no_matter_to_rounds();
     ic_in_place::laws::a_line_by_rounds_is_the_net_after_them();
 }

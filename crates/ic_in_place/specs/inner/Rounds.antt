@@ -1,5 +1,6 @@
 -- For private functions: where a round begins.
 use Rattle.std.specs.Prelude.{◌≡◌, ◌⊎◌, ℕ, List, [], Contains, length}
+use Rattle.std.specs.List.{concat}
 use Rattle.ic_machine.specs.declared.equation.Equation.{Equation}
 use Rattle.ic_machine.specs.declared.generation.Generation.{Generation}
 use Rattle.ic_machine.specs.Generations.{IsWithin, present}
@@ -26,3 +27,4 @@ pub record RoundBegins (p : Plans) (pairs rounds : ℕ) (g : Generation) (first 
   pub active : (made ≡ []) ⊎ AreSomeActive p (present g m.pending)
   pub within : IsWithin g m.pending
   pub ran : Ran p first m
+  pub fired : ran.fired ≡ concat made
