@@ -5,6 +5,23 @@ use std::alloc::{AllocError, AllocFailed};
 /// What is amiss at a place.
 #[derive(Clone, Copy, Debug, PartialEq, Eq)]
 pub enum Reason {
+    /// A rule by an arrow, or a term, isn't written so.
+    Rule(RuleReason),
+    /// The names or equations of a rule by an arrow lead to no plain rule.
+    Wire(WireReason),
+    /// A number, a list, a pair or their declaration isn't written so.
+    Shorthand(ShorthandReason),
+    /// A `let` isn't written so, or names what it may not.
+    Let(LetReason),
+    /// A file can't be used.
+    Use(UseReason),
+    /// What is written has too many bytes.
+    TooLong,
+}
+
+/// What is amiss in the form of a rule by an arrow, or of a term.
+#[derive(Clone, Copy, Debug, PartialEq, Eq)]
+pub enum RuleReason {
     /// No side of a rule by an arrow stands here: a symbol, maybe with names in parentheses.
     NoSide,
     /// An argument of such a side is no name.
@@ -21,6 +38,11 @@ pub enum Reason {
     NoClosing,
     /// After an equation `,` or the end of the rule is looked for.
     NoEnd,
+}
+
+/// What is amiss in the names and equations of a rule by an arrow.
+#[derive(Clone, Copy, Debug, PartialEq, Eq)]
+pub enum WireReason {
     /// A name stands twice on the left side.
     TwiceLeft,
     /// A name of the left side doesn't stand on the right.
@@ -35,8 +57,11 @@ pub enum Reason {
     Meeting,
     /// An equation leads round to itself.
     Circle,
-    /// What is written has too many bytes.
-    TooLong,
+}
+
+/// What is amiss in a number, a list, a pair, or their declaration.
+#[derive(Clone, Copy, Debug, PartialEq, Eq)]
+pub enum ShorthandReason {
     /// A declaration needs a symbol.
     NoSymbol,
     /// After a declaration the end of the rule is looked for.
@@ -55,16 +80,26 @@ pub enum Reason {
     NoListOpen,
     /// After `^` a number and `(` are looked for.
     NoPower,
+}
+
+/// What is amiss in a `let`.
+#[derive(Clone, Copy, Debug, PartialEq, Eq)]
+pub enum LetReason {
     /// After `let` a name is looked for.
-    NoLetName,
+    NoName,
     /// After its name `=` is looked for.
-    NoLetSign,
+    NoSign,
     /// After its term another `let` or the configuration is looked for.
-    NoLetEnd,
+    NoEnd,
     /// A term by `let` has a name.
     NotClosed,
     /// An earlier `let` has the name.
-    LetAgain,
+    Again,
+}
+
+/// What is amiss in a `use`.
+#[derive(Clone, Copy, Debug, PartialEq, Eq)]
+pub enum UseReason {
     /// After `use` a path in quotes is looked for.
     NoPath,
     /// The file that is named can't be read.
@@ -72,7 +107,7 @@ pub enum Reason {
     /// Too many files are named.
     ManyFiles,
     /// The file that is named uses this one, too.
-    UseCircle,
+    Circle,
 }
 
 impl Reason {
@@ -89,6 +124,34 @@ pub enum RichFault {
     Refused(Reason, usize),
     /// A growth was refused.
     Memory,
+}
+
+impl RuleReason {
+    /// The refusal at a place.
+    pub(crate) fn at(self, place: usize) -> RichFault {
+        RichFault::Refused(Reason::Rule(self), place)
+    }
+}
+
+impl WireReason {
+    /// The refusal at a place.
+    pub(crate) fn at(self, place: usize) -> RichFault {
+        RichFault::Refused(Reason::Wire(self), place)
+    }
+}
+
+impl ShorthandReason {
+    /// The refusal at a place.
+    pub(crate) fn at(self, place: usize) -> RichFault {
+        RichFault::Refused(Reason::Shorthand(self), place)
+    }
+}
+
+impl LetReason {
+    /// The refusal at a place.
+    pub(crate) fn at(self, place: usize) -> RichFault {
+        RichFault::Refused(Reason::Let(self), place)
+    }
 }
 
 impl From<AllocError> for RichFault {

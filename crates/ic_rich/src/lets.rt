@@ -1,6 +1,6 @@
 //! The terms that `let` names.
 
-use crate::fault::{Reason, RichFault};
+use crate::fault::{LetReason, RichFault};
 use crate::reader::Reader;
 use crate::tokens::{Kind, Token, tokens_of};
 use ic_text::is_blank;
@@ -41,7 +41,7 @@ fn refused_term(alloc: Global, text: &[u8]) -> Result<(), RichFault> {
     reader.only_term(alloc)?;
     for token in &tokens {
         if token.kind == Kind::Name {
-            return Err(RichFault::Refused(Reason::NotClosed, token.at));
+            return Err(LetReason::NotClosed.at(token.at));
         }
     }
     Ok(())

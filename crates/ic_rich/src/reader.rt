@@ -1,6 +1,6 @@
 //! Reading the tokens of a rule by an arrow.
 
-use crate::fault::{Reason, RichFault};
+use crate::fault::{LetReason, RichFault, RuleReason};
 use crate::spans::{Equation, Span};
 use crate::tokens::{Kind, Token};
 use std::alloc::Global;
@@ -51,13 +51,17 @@ impl<'r, 't> Reader<'r, 't> {
         is_next
     }
 
-    /// The refusal of what stands here.
-    fn refused(&self, reason: Reason) -> RichFault {
-        let at = match self.tokens.get(self.next) {
+    /// The place of what stands here.
+    fn at(&self) -> usize {
+        match self.tokens.get(self.next) {
             Some(token) => token.at,
             None => self.end,
-        };
-        RichFault::Refused(reason, at)
+        }
+    }
+
+    /// The refusal of what stands here.
+    fn refused(&self, reason: RuleReason) -> RichFault {
+        reason.at(self.at())
     }
 
     /// A side of the rule: the place of its symbol, and those of the names that are its arguments.
@@ -65,7 +69,7 @@ impl<'r, 't> Reader<'r, 't> {
         let symbol = self.next;
         let mut names = Vec::new(alloc);
         if self.kind() != Kind::Symbol {
-            return Err(self.refused(Reason::NoSide));
+            return Err(self.refused(RuleReason::NoSide));
         }
         self.pass();
         if !self.takes(b'(') {
@@ -80,7 +84,7 @@ impl<'r, 't> Reader<'r, 't> {
         if self.takes(b')') {
             Ok((symbol, names))
         } else {
-            Err(self.refused(Reason::NoClosing))
+            Err(self.refused(RuleReason::NoClosing))
         }
     }
 
@@ -91,7 +95,7 @@ impl<'r, 't> Reader<'r, 't> {
             self.pass();
             Ok(place)
         } else {
-            Err(self.refused(Reason::NoName))
+            Err(self.refused(RuleReason::NoName))
         }
     }
 
@@ -100,7 +104,7 @@ impl<'r, 't> Reader<'r, 't> {
         if self.takes(b'>') && self.takes(b'<') {
             Ok(())
         } else {
-            Err(self.refused(Reason::NoMeeting))
+            Err(self.refused(RuleReason::NoMeeting))
         }
     }
 
@@ -111,7 +115,7 @@ impl<'r, 't> Reader<'r, 't> {
             self.pass();
             Ok(place)
         } else {
-            Err(self.refused(Reason::NoArrow))
+            Err(self.refused(RuleReason::NoArrow))
         }
     }
 
@@ -124,7 +128,7 @@ impl<'r, 't> Reader<'r, 't> {
             }
             equations.push(self.equation(alloc)?)?;
             if !self.takes(b',') && self.kind() != Kind::End {
-                return Err(self.refused(Reason::NoEnd));
+                return Err(self.refused(RuleReason::NoEnd));
             }
         }
         Ok(equations)
@@ -133,7 +137,7 @@ impl<'r, 't> Reader<'r, 't> {
     fn equation(&mut self, alloc: Global) -> Result<Equation, RichFault> {
         let left = self.term(alloc)?;
         if !self.takes(b'~') && !self.takes(b'=') {
-            return Err(self.refused(Reason::NoSign));
+            return Err(self.refused(RuleReason::NoSign));
         }
         let right = self.term(alloc)?;
         Ok(Equation { left, right })
@@ -145,7 +149,7 @@ impl<'r, 't> Reader<'r, 't> {
         if self.kind() == Kind::End {
             Ok(())
         } else {
-            Err(self.refused(Reason::NoLetEnd))
+            Err(LetReason::NoEnd.at(self.at()))
         }
     }
 
@@ -186,7 +190,7 @@ impl<'r, 't> Reader<'r, 't> {
                 }
                 Ok(has_arguments)
             }
-            _ => Err(self.refused(Reason::NoTerm)),
+            _ => Err(self.refused(RuleReason::NoTerm)),
         }
     }
 
@@ -197,7 +201,7 @@ impl<'r, 't> Reader<'r, 't> {
         }
         match open.pop() {
             Some(Open::Arguments) if self.takes(b')') => Ok(false),
-            _ => Err(self.refused(Reason::NoClosing)),
+            _ => Err(self.refused(RuleReason::NoClosing)),
         }
     }
 }

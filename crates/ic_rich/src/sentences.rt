@@ -1,6 +1,6 @@
 //! What is said of a text that isn't unfolded.
 
-use crate::fault::Reason;
+use crate::fault::{LetReason, Reason, RuleReason, ShorthandReason, UseReason, WireReason};
 use std::alloc::{AllocError, Global};
 
 /// What is amiss at the place of a refusal, where a text goes on so.
@@ -25,101 +25,139 @@ fn name_at(rest: &[u8]) -> &[u8] {
 }
 
 /// What is said before the name that stands at the place, and after it, if it is told.
-fn words_of(reason: Reason) -> (&'static [u8], &'static [u8]) {
+type Words = (&'static [u8], &'static [u8]);
+
+/// What is said of a text for this reason.
+fn words_of(reason: Reason) -> Words {
     match reason {
-        Reason::NoSide => (
-            b"a rule by => begins as A(x,y) >< B(z): a symbol is looked for here",
-            b"",
-        ),
-        Reason::NoName => (
-            b"left of => the arguments of both symbols are names, and one is looked for here",
-            b"",
-        ),
-        Reason::NoMeeting => (
-            b">< is looked for here, between the two sides of a rule",
-            b"",
-        ),
-        Reason::NoArrow => (b"=> is looked for here, after both sides of a rule", b""),
-        Reason::NoTerm => (
-            b"a term is looked for here: a name, or a symbol, which may have arguments",
-            b"",
-        ),
-        Reason::NoSign => (b"~ or = is looked for here, between two terms", b""),
-        Reason::NoClosing => (b", or ) is looked for here", b""),
-        Reason::NoEnd => (b", or the end of the rule is looked for here", b""),
-        Reason::TwiceLeft => (
-            b"left of => each name stands once: ",
-            b" stands there twice",
-        ),
-        Reason::NotRight => (
-            b"a name left of => stands once right of it, and this one doesn't: to erase it, write ",
-            b" ~ Era",
-        ),
-        Reason::TwiceRight => (
-            b"a name left of => stands once right of it, and this one twice: to copy it, write ",
-            b" ~ Dup(y,z)",
-        ),
-        Reason::OnceRight => (
-            b"a name that isn't left of => stands right of it twice: ",
-            b" stands once",
-        ),
-        Reason::ThriceRight => (
-            b"a name that isn't left of => stands right of it twice: ",
-            b" stands three times",
-        ),
-        Reason::Meeting => (
-            b"right of => no two agents meet: what they come to is to be written, or a rule more",
-            b"",
-        ),
-        Reason::Circle => (
-            b"right of => this equation leads round to itself, and to no name left of it",
-            b"",
-        ),
+        Reason::Rule(reason) => rule_words(reason),
+        Reason::Wire(reason) => wire_words(reason),
+        Reason::Shorthand(reason) => shorthand_words(reason),
+        Reason::Let(reason) => let_words(reason),
+        Reason::Use(reason) => use_words(reason),
         Reason::TooLong => (
             b"what this stands for is too long: a text has at most 16777216 bytes",
             b"",
         ),
-        Reason::NoSymbol => (
+    }
+}
+
+/// What is said of the form of a rule by an arrow, or of a term.
+fn rule_words(reason: RuleReason) -> Words {
+    match reason {
+        RuleReason::NoSide => (
+            b"a rule by => begins as A(x,y) >< B(z): a symbol is looked for here",
+            b"",
+        ),
+        RuleReason::NoName => (
+            b"left of => the arguments of both symbols are names, and one is looked for here",
+            b"",
+        ),
+        RuleReason::NoMeeting => (
+            b">< is looked for here, between the two sides of a rule",
+            b"",
+        ),
+        RuleReason::NoArrow => (b"=> is looked for here, after both sides of a rule", b""),
+        RuleReason::NoTerm => (
+            b"a term is looked for here: a name, or a symbol, which may have arguments",
+            b"",
+        ),
+        RuleReason::NoSign => (b"~ or = is looked for here, between two terms", b""),
+        RuleReason::NoClosing => (b", or ) is looked for here", b""),
+        RuleReason::NoEnd => (b", or the end of the rule is looked for here", b""),
+    }
+}
+
+/// What is said of the names and equations of a rule by an arrow.
+fn wire_words(reason: WireReason) -> Words {
+    match reason {
+        WireReason::TwiceLeft => (
+            b"left of => each name stands once: ",
+            b" stands there twice",
+        ),
+        WireReason::NotRight => (
+            b"a name left of => stands once right of it, and this one doesn't: to erase it, write ",
+            b" ~ Era",
+        ),
+        WireReason::TwiceRight => (
+            b"a name left of => stands once right of it, and this one twice: to copy it, write ",
+            b" ~ Dup(y,z)",
+        ),
+        WireReason::OnceRight => (
+            b"a name that isn't left of => stands right of it twice: ",
+            b" stands once",
+        ),
+        WireReason::ThriceRight => (
+            b"a name that isn't left of => stands right of it twice: ",
+            b" stands three times",
+        ),
+        WireReason::Meeting => (
+            b"right of => no two agents meet: what they come to is to be written, or a rule more",
+            b"",
+        ),
+        WireReason::Circle => (
+            b"right of => this equation leads round to itself, and to no name left of it",
+            b"",
+        ),
+    }
+}
+
+/// What is said of a number, a list, a pair, or their declaration.
+fn shorthand_words(reason: ShorthandReason) -> Words {
+    match reason {
+        ShorthandReason::NoSymbol => (
             b"a symbol is looked for here: number S Z, list Cons Nil and pair Pair say what numbers, lists and pairs stand for",
             b"",
         ),
-        Reason::NoEndOfRule => (b"; or } is looked for here", b""),
-        Reason::Again => (b"an earlier ", b" says what these stand for"),
-        Reason::NoList => (
+        ShorthandReason::NoEndOfRule => (b"; or } is looked for here", b""),
+        ShorthandReason::Again => (b"an earlier ", b" says what these stand for"),
+        ShorthandReason::NoList => (
             b"write list Cons Nil among the rules, which says what a list stands for",
             b"",
         ),
-        Reason::NoPair => (
+        ShorthandReason::NoPair => (
             b"write pair Pair among the rules, which says what a pair stands for",
             b"",
         ),
-        Reason::NotTwo => (b"a pair has two terms, as (a,b)", b""),
-        Reason::NoListEnd => (
+        ShorthandReason::NotTwo => (b"a pair has two terms, as (a,b)", b""),
+        ShorthandReason::NoListEnd => (
             b", or ] is looked for here, and after the term that follows | only ]",
             b"",
         ),
-        Reason::NoListOpen => (b"no list is open here", b""),
-        Reason::NoPower => (
+        ShorthandReason::NoListOpen => (b"no list is open here", b""),
+        ShorthandReason::NoPower => (
             b"after ^ a number and a term in parentheses are looked for, as in S^12(x)",
             b"",
         ),
-        Reason::NoLetName => (b"a name is looked for here, as in let two = S(S(Z))", b""),
-        Reason::NoLetSign => (b"= is looked for here, as in let two = S(S(Z))", b""),
-        Reason::NoLetEnd => (
+    }
+}
+
+/// What is said of a `let`.
+fn let_words(reason: LetReason) -> Words {
+    match reason {
+        LetReason::NoName => (b"a name is looked for here, as in let two = S(S(Z))", b""),
+        LetReason::NoSign => (b"= is looked for here, as in let two = S(S(Z))", b""),
+        LetReason::NoEnd => (
             b"after the term of a let another let or the configuration is looked for",
             b"",
         ),
-        Reason::NotClosed => (
+        LetReason::NotClosed => (
             b"what let names has no names but those of an earlier let: ",
             b" is none",
         ),
-        Reason::LetAgain => (b"an earlier let names ", b" already"),
-        Reason::NoPath => (
+        LetReason::Again => (b"an earlier let names ", b" already"),
+    }
+}
+
+/// What is said of a `use`.
+fn use_words(reason: UseReason) -> Words {
+    match reason {
+        UseReason::NoPath => (
             b"a path in quotes is looked for here, as in use \"nat.rich\"",
             b"",
         ),
-        Reason::NoFile => (b"the file that is named here can't be read", b""),
-        Reason::ManyFiles => (b"a text uses at most 63 files", b""),
-        Reason::UseCircle => (b"the file that is named here uses this one, too", b""),
+        UseReason::NoFile => (b"the file that is named here can't be read", b""),
+        UseReason::ManyFiles => (b"a text uses at most 63 files", b""),
+        UseReason::Circle => (b"the file that is named here uses this one, too", b""),
     }
 }

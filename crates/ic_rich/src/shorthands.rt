@@ -1,6 +1,6 @@
 //! Numbers, lists, pairs and terms that `let` names, written as the terms for which they stand.
 
-use crate::fault::{Reason, RichFault};
+use crate::fault::{LetReason, RichFault, ShorthandReason};
 use crate::lets::{Lets, Letting};
 use crate::segments::{Segment, after_blanks, part_of};
 use crate::signs::{Sign, Signs, declares};
@@ -257,7 +257,7 @@ impl<'t> Shorthands<'t> {
     fn put_power(&mut self, token: Token, power: &[u8]) -> Result<usize, RichFault> {
         let (digits, rest) = split_word(power);
         if !is_number(digits) || after_mark(rest, b'(').is_none() {
-            return Err(RichFault::Refused(Reason::NoPower, self.place_of(power)));
+            return Err(ShorthandReason::NoPower.at(self.place_of(power)));
         }
         let count = number_of(digits);
         self.put_openings(token.text, count, token.at)?;
@@ -293,7 +293,7 @@ impl<'t> Shorthands<'t> {
             }
             Before::Other => {
                 let Some(sign) = self.signs.pair else {
-                    return Err(RichFault::Refused(Reason::NoPair, token.at));
+                    return Err(ShorthandReason::NoPair.at(token.at));
                 };
                 self.open.push(Open::First)?;
                 self.put_openings(sign.more, 1, token.at)?;
@@ -310,10 +310,8 @@ impl<'t> Shorthands<'t> {
                 self.before = Before::Other;
                 Ok(next)
             }
-            Some(Open::First) => Err(RichFault::Refused(Reason::NotTwo, token.at)),
-            Some(Open::List(_) | Open::Tail(_)) => {
-                Err(RichFault::Refused(Reason::NoListEnd, token.at))
-            }
+            Some(Open::First) => Err(ShorthandReason::NotTwo.at(token.at)),
+            Some(Open::List(_) | Open::Tail(_)) => Err(ShorthandReason::NoListEnd.at(token.at)),
             Some(Open::Arguments | Open::Second) | None => {
                 self.put_token(token, next, Before::Other)
             }
@@ -323,7 +321,7 @@ impl<'t> Shorthands<'t> {
     /// Writes the opening of a list, or a list without terms.
     fn put_list(&mut self, token: Token, next: usize) -> Result<usize, RichFault> {
         let Some(sign) = self.signs.list else {
-            return Err(RichFault::Refused(Reason::NoList, token.at));
+            return Err(ShorthandReason::NoList.at(token.at));
         };
         if self.before == Before::Word {
             self.written.put_made(b" ".as_slice(), token.at)?;
@@ -349,7 +347,7 @@ impl<'t> Shorthands<'t> {
                 self.put_closings(count, token.at)?;
             }
             (Some(_), Some(Open::Tail(count))) => self.put_closings(count, token.at)?,
-            _ => return Err(RichFault::Refused(Reason::NoListOpen, token.at)),
+            _ => return Err(ShorthandReason::NoListOpen.at(token.at)),
         }
         self.before = Before::Other;
         Ok(next)
@@ -370,8 +368,8 @@ impl<'t> Shorthands<'t> {
                 self.open.push(Open::Second)?;
                 self.put_token(token, next, Before::Other)
             }
-            Some(Open::Second) => Err(RichFault::Refused(Reason::NotTwo, token.at)),
-            Some(Open::Tail(_)) => Err(RichFault::Refused(Reason::NoListEnd, token.at)),
+            Some(Open::Second) => Err(ShorthandReason::NotTwo.at(token.at)),
+            Some(Open::Tail(_)) => Err(ShorthandReason::NoListEnd.at(token.at)),
             Some(open) => {
                 self.open.push(open)?;
                 self.put_token(token, next, Before::Other)
@@ -429,14 +427,14 @@ impl<'t> Shorthands<'t> {
         let (name, rest) = split_word(self.rest(next));
         let at = self.place_of(rest).saturating_sub(name.len());
         if kind_of(name) != Kind::Name {
-            return Err(RichFault::Refused(Reason::NoLetName, at));
+            return Err(LetReason::NoName.at(at));
         }
         if self.lets.get(name).is_some() {
-            return Err(RichFault::Refused(Reason::LetAgain, at));
+            return Err(LetReason::Again.at(at));
         }
         let Some(term) = after_mark(rest, b'=') else {
             let at = self.place_of(after_blanks(rest));
-            return Err(RichFault::Refused(Reason::NoLetSign, at));
+            return Err(LetReason::NoSign.at(at));
         };
         let start = self.written.text().len();
         self.letting = Some(Letting {

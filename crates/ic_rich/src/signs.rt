@@ -1,6 +1,6 @@
 //! What a text declares of the symbols of numbers, lists and pairs.
 
-use crate::fault::{Reason, RichFault};
+use crate::fault::{RichFault, ShorthandReason};
 use crate::segments::{Segment, leading_word};
 use crate::tokens::{Kind, Token, tokens_of};
 use std::alloc::Global;
@@ -66,9 +66,8 @@ pub(crate) struct Signs<'t> {
 }
 
 /// The refusal at a token, or at the end of a declaration where there is none.
-fn refused_at(tokens: &[Token], place: usize, end: usize, reason: Reason) -> RichFault {
-    let at = tokens.get(place).map_or(end, |token| token.at);
-    RichFault::Refused(reason, at)
+fn refused_at(tokens: &[Token], place: usize, end: usize, reason: ShorthandReason) -> RichFault {
+    reason.at(tokens.get(place).map_or(end, |token| token.at))
 }
 
 /// The text of the token at a place, if it is a symbol.
@@ -82,14 +81,19 @@ fn symbol_at<'t>(tokens: &[Token<'t>], place: usize) -> Option<&'t [u8]> {
 /// The symbols of a declaration, whose word comes first.
 fn sign_of<'t>(tokens: &[Token<'t>], sort: Sort, end: usize) -> Result<Sign<'t>, RichFault> {
     let Some(more) = symbol_at(tokens, 1) else {
-        return Err(refused_at(tokens, 1, end, Reason::NoSymbol));
+        return Err(refused_at(tokens, 1, end, ShorthandReason::NoSymbol));
     };
     let last = sort.count();
     let Some(none) = symbol_at(tokens, last) else {
-        return Err(refused_at(tokens, last, end, Reason::NoSymbol));
+        return Err(refused_at(tokens, last, end, ShorthandReason::NoSymbol));
     };
     if tokens.len() > last.saturating_add(1) {
-        return Err(refused_at(tokens, last.saturating_add(1), end, Reason::NoEndOfRule));
+        return Err(refused_at(
+            tokens,
+            last.saturating_add(1),
+            end,
+            ShorthandReason::NoEndOfRule,
+        ));
     }
     Ok(Sign { more, none })
 }
@@ -125,7 +129,7 @@ impl<'t> Signs<'t> {
         let sign = sign_of(&tokens, sort, segment.to)?;
         let slot = self.slot(sort);
         if slot.is_some() {
-            return Err(refused_at(&tokens, 0, segment.to, Reason::Again));
+            return Err(refused_at(&tokens, 0, segment.to, ShorthandReason::Again));
         }
         *slot = Some(sign);
         Ok(())

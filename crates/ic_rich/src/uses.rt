@@ -1,6 +1,6 @@
 //! Files whose rules a text uses: `use "nat.rich"` among its rules, and among theirs.
 
-use crate::fault::Reason;
+use crate::fault::{Reason, UseReason};
 use crate::segments::{Segment, after_blanks, leading_word, part_of, segments_of};
 use crate::tokens::first_word;
 use ic_text::is_blank;
@@ -68,6 +68,13 @@ pub(crate) enum UseFault {
     Same(Place, Place),
     /// A growth was refused.
     Memory,
+}
+
+impl UseReason {
+    /// The refusal at a place.
+    fn at(self, place: Place) -> UseFault {
+        UseFault::Refused(Reason::Use(self), place)
+    }
 }
 
 impl From<AllocError> for UseFault {
@@ -240,7 +247,7 @@ impl Sources {
         let Use { at, path } = used;
         let place = Place { source, at };
         let Some(path) = path else {
-            return Err(UseFault::Refused(Reason::NoPath, place));
+            return Err(UseReason::NoPath.at(place));
         };
         let (full, root) = match self.all.get(source) {
             Some(by) if source == 0 => (beside(alloc, &by.path, &path)?, at),
@@ -268,7 +275,7 @@ impl Sources {
             return self.add_new(alloc, Found { path, text }, root, place);
         }
         let Some(found) = files.of_library(alloc, named)? else {
-            return Err(UseFault::Refused(Reason::NoFile, place));
+            return Err(UseReason::NoFile.at(place));
         };
         match self.place_of(&found.path) {
             Some(to) => Ok(to),
@@ -286,7 +293,7 @@ impl Sources {
     ) -> Result<usize, UseFault> {
         let to = self.all.len();
         if to >= MAX_FILES {
-            return Err(UseFault::Refused(Reason::ManyFiles, place));
+            return Err(UseReason::ManyFiles.at(place));
         }
         self.add(alloc, found.path, found.text, root)?;
         Ok(to)
@@ -309,7 +316,7 @@ impl Sources {
         for source in 0..self.all.len() {
             if open.get(source).copied() == Some(true) {
                 if let Some(place) = self.use_within(&open, source) {
-                    return Err(UseFault::Refused(Reason::UseCircle, place));
+                    return Err(UseReason::Circle.at(place));
                 }
             }
         }

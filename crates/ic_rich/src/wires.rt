@@ -1,6 +1,6 @@
 //! Where the wires of a rule by an arrow lead.
 
-use crate::fault::{Reason, RichFault};
+use crate::fault::{RichFault, WireReason};
 use crate::spans::{Equation, Span};
 use crate::tokens::{Kind, Token};
 use std::alloc::{AllocError, Global};
@@ -39,12 +39,12 @@ fn note_again(
     first: usize,
     place: usize,
     is_left: bool,
-) -> Result<(), Reason> {
+) -> Result<(), WireReason> {
     if partners.get(first).copied() != Some(first) {
         return Err(if is_left {
-            Reason::TwiceRight
+            WireReason::TwiceRight
         } else {
-            Reason::ThriceRight
+            WireReason::ThriceRight
         });
     }
     if let Some(partner) = partners.get_mut(first) {
@@ -67,10 +67,10 @@ fn partners_of(alloc: Global, tokens: &[Token], arrow: usize) -> Result<Vec<usiz
                     firsts.insert(token.text, place)?;
                 }
                 Some(_) if place < arrow => {
-                    return Err(RichFault::Refused(Reason::TwiceLeft, token.at));
+                    return Err(WireReason::TwiceLeft.at(token.at));
                 }
                 Some(first) => note_again(&mut partners, first, place, first < arrow).map_err(
-                    |reason| RichFault::Refused(reason, token.at),
+                    |reason| reason.at(token.at),
                 )?,
             }
         }
@@ -83,11 +83,11 @@ fn refused_alone(partners: &[usize], tokens: &[Token], arrow: usize) -> Result<(
     for (place, token) in tokens.iter().enumerate() {
         if token.kind == Kind::Name && partners.get(place).copied() == Some(place) {
             let reason = if place < arrow {
-                Reason::NotRight
+                WireReason::NotRight
             } else {
-                Reason::OnceRight
+                WireReason::OnceRight
             };
-            return Err(RichFault::Refused(reason, token.at));
+            return Err(reason.at(token.at));
         }
     }
     Ok(())
@@ -137,7 +137,7 @@ fn across_of(
         let has_left = note_across(&mut across, tokens, it.left, right);
         let has_right = note_across(&mut across, tokens, it.right, left);
         if !has_left && !has_right {
-            return Err(RichFault::Refused(Reason::Meeting, begin_of(tokens, it.left)));
+            return Err(WireReason::Meeting.at(begin_of(tokens, it.left)));
         }
     }
     Ok(across)
@@ -207,13 +207,13 @@ impl Wires {
         for equation in equations.iter().skip(first) {
             if self.meets(tokens, *equation) {
                 let at = begin_of(tokens, equation.left);
-                return Err(RichFault::Refused(Reason::Meeting, at));
+                return Err(WireReason::Meeting.at(at));
             }
         }
         let at = equations
             .get(first)
             .map_or(0, |it| begin_of(tokens, it.left));
-        Err(RichFault::Refused(Reason::Circle, at))
+        Err(WireReason::Circle.at(at))
     }
 
     /// Whether the wire of an equation of a name and an agent leads to a second agent.
