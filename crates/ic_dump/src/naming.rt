@@ -40,7 +40,8 @@ fn is_of_texts(word: Word) -> bool
 pub(crate) fn renumbered(alloc: Global, flat: &Flat) -> Result<Flat, AllocError>
     ensures { IfOk result (λ numbered. numbered ≡ renumbered flat.now) }
 {
-    let words = renumbered_words(alloc, flat.words())?;
+    let own = Vec::from_slice(alloc, flat.words())?;
+    let words = renumbered_words(alloc, own)?;
     let (terms, equations) = (flat.interface_len(), flat.equations_len());
     Ok(Flat::from_parts(words, terms, equations, MAX_NAME + 1))
 }

@@ -41,7 +41,7 @@ pub struct Look {
 }
 
 impl Gauge {
-    /// Of the net of a system that begins so, by plans of rules with these numbers, and with at most so many names and agents.
+    /// Of the net of a system that begins with these names, by plans of rules with these numbers, and with at most so many names and agents.
     pub fn new(
         alloc: Global,
         system: &WideSystem,
@@ -57,7 +57,7 @@ impl Gauge {
             growth = growth.max(names.saturating_add(agents).saturating_sub(2));
             made.push(agents)?;
         }
-        let bound = u64::from(first.plan.names).saturating_mul(2);
+        let bound = u64::from(first.names).saturating_mul(2);
         Ok(Gauge {
             most,
             begun: system.config().nodes().saturating_sub(bound),

@@ -1,8 +1,8 @@
 //! A system reduced by the machine, in place: steps in any order, answered with the net of every order.
 //!
 //! `reduce_in_place` reduces a system, and `reduce_in_place_stream` that which a reader gives. `laws` says what a machine
-//! holds, and that a quiet end is that of every order. `begin`, `run_in_pieces` and `stopped_line` are the parts of a
-//! reduction, for those who run machines themselves.
+//! holds, and that a quiet end is that of every order. `run_in_pieces` and `stopped_line` are parts of a reduction, for
+//! those who run machines themselves.
 #![tactic(auto)]
 
 mod circle;
@@ -20,7 +20,7 @@ mod writing;
 pub use circle::circle_text;
 pub use counting::{no_counts, sum_by_rule};
 pub use gauge::{Gauge, Look};
-pub use reducing::{Reduced, Stopped, begin, read_stopped, reduce_in_place};
+pub use reducing::{Reduced, Stopped, read_stopped, reduce_in_place};
 pub use rounded::{Rounded, reduce_by_rounds, reduce_by_rounds_stream};
 pub use rounds::{NoRows, RoundBounds, Rows, run_by_rounds};
 pub use running::{Bounds, End, PIECE, Watch, names_until_sweep, run_in_pieces, sweep_if_due};

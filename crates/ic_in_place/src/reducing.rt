@@ -1,16 +1,15 @@
 //! A system reduced in place.
 
-ghost use Rattle.std.specs.Prelude.{◌≡◌, ◌≤◌, IfOk, length};
-ghost use Rattle.ic_term.specs.Configuration.{Configuration, configuration_nodes};
-ghost use Rattle.ic_machine.specs.Plan.{planned, ArePlans};
-ghost use Rattle.ic_machine.specs.Runs.{IsStart};
+ghost use Rattle.std.specs.Prelude.{◌≡◌, IfOk, length};
+ghost use Rattle.ic_term.specs.Configuration.{Configuration};
+ghost use Rattle.ic_machine.specs.Plan.{ArePlans};
 ghost use Rattle.ic_meaning.specs.Plans.{ArePlansOf};
 ghost use Rattle.ic_in_place.specs.declared.running.Bounds.{Bounds as AnyBounds};
 ghost use Rattle.ic_in_place.specs.Counting.{TellsNameSteps};
 ghost use Rattle.ic_in_place.specs.Reducing.{IsPutTogether, IsReached, Writes};
 ghost use Rattle.ic_in_place.specs.Holding.{IsNetOf};
 ghost use Rattle.ic_in_place.specs.Reductions.{IsReducedTo};
-ghost use Rattle.ic_in_place.specs.Stopping.{HasCome, IsBegun, IsSound, arities_of};
+ghost use Rattle.ic_in_place.specs.Stopping.{HasCome, IsSound, arities_of};
 ghost use Rattle.ic_in_place.specs.inner.Unwritten.{WritesAlike};
 
 use crate::counting::{name_steps_at, no_counts, sum_by_rule};
@@ -20,7 +19,7 @@ use crate::writing::words_of;
 use ic_flat::{WideSystem, Word};
 use ic_machine::{Machine, Program};
 use ic_naming::renumbered_words;
-use ic_plans::{First, compile, first_plan};
+use ic_plans::{begin, compile};
 use ic_readback::read_back;
 use std::alloc::{AllocError, Global};
 
@@ -104,7 +103,7 @@ pub fn read_stopped(
 {
     let reached = read_words(alloc, system, stopped)?;
     Ok(Reduced {
-        words: renumbered_words(alloc, &reached.words)?,
+        words: renumbered_words(alloc, reached.words)?,
         terms: reached.terms,
         equations: reached.equations,
         interactions: reached.interactions,
@@ -206,8 +205,7 @@ fn run_compiled<V: Watch>(
 {
     crate::laws::what_a_machine_holds_is_reached();
     systems_are_sound(system);
-    let first = first_plan(alloc, system)?;
-    let mut machine = begin(alloc, system, program, &first)?;
+    let (mut machine, first) = begin(alloc, program, system)?;
     let mut by_rule = no_counts(alloc, system.rules().rules().len())?;
     let gauge = Gauge::new(alloc, system, &first, numbers, bounds.nodes)?;
     let end = run_in_pieces(&mut machine, program, &gauge, bounds.steps, watch);
@@ -221,28 +219,6 @@ fn run_compiled<V: Watch>(
         shared: 0,
         end,
     })
-}
-
-/// The machine that begins with the configuration of a system.
-pub fn begin(
-    alloc: Global,
-    system: &WideSystem,
-    program: &Program,
-    first: &First,
-) -> Result<Machine, AllocError>
-    requires arities { program.now.arities ≡ arities_of system.now }
-    requires start { IsStart (arities_of system.now) (length first.now.given.items)
-        (planned first.now.plan) first.now.interface.items }
-    requires few { length first.now.given.items ≤ configuration_nodes system.now.config }
-    ensures { IfOk result (IsBegun program.now (length first.now.given.items)
-        (planned first.now.plan) first.now.interface.items) }
-{
-    systems_are_sound(system);
-    let given = first.given.len() as u32;
-    match Machine::new(alloc, program, &first.plan, given, &first.interface) {
-        Ok(machine) => Ok(machine),
-        Err(_) => Err(AllocError),
-    }
 }
 
 /// Systems keep what their rules and their configurations do.

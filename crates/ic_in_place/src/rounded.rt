@@ -10,7 +10,7 @@ ghost use Rattle.ic_in_place.specs.Stopping.{arities_of};
 
 use crate::counting::{no_counts, sum_by_rule};
 use crate::gauge::Gauge;
-use crate::reducing::{Stopped, begin, systems_are_sound};
+use crate::reducing::{Stopped, systems_are_sound};
 use crate::rounds::{NoRows, RoundBounds, Rows, run_by_rounds};
 use crate::running::{End, Watch};
 use crate::stream::{Asked, Outcome, stopped_line};
@@ -18,7 +18,7 @@ use ic_diagnostics::{Kind, refused_within};
 use ic_flat::WideSystem;
 use ic_machine::Program;
 use ic_machine::laws::what_a_machine_holds;
-use ic_plans::{compile, first_generation};
+use ic_plans::{begin_with_pairs, compile};
 use ic_streams::{StreamFault, read_text_within, write_line};
 use ic_text::{Limits, find_wide_system};
 use std::alloc::Global;
@@ -173,8 +173,7 @@ fn round_compiled<V: Watch, S: Rows<W>, W: Write>(
     crate::laws::what_a_machine_holds_after_rounds();
     ic_plans::laws::the_first_pairs_are_pending_first();
     systems_are_sound(system);
-    let (first, pairs) = first_generation(alloc, system)?;
-    let mut machine = begin(alloc, system, program, &first)?;
+    let (mut machine, first, pairs) = begin_with_pairs(alloc, program, system)?;
     let mut by_rule = no_counts(alloc, system.rules().rules().len())?;
     let gauge = Gauge::new(alloc, system, &first, numbers, bounds.nodes)?;
     rows.begin(alloc, system, numbers)?;

@@ -43,3 +43,4 @@ pub mod Queues
 pub mod Takings
 pub mod Advancing
 pub mod Heads
+pub mod Built

@@ -3,6 +3,7 @@ pub mod Separate
 pub mod Steps
 pub mod Net
 pub mod Runs
+pub mod Building
 pub mod Generations
 pub mod Held
 pub mod Rooms

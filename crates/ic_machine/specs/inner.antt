@@ -11,3 +11,5 @@ pub mod Borders
 pub mod Moving
 pub mod Unpacking
 pub mod Places
+pub mod Making
+pub mod Building

@@ -5,6 +5,7 @@
 #![tactic(auto)]
 
 mod borders;
+mod building;
 mod equation;
 mod firing;
 mod generation;
@@ -22,6 +23,7 @@ mod telling;
 mod unpacking;
 
 pub use borders::Borders;
+pub use building::Builder;
 pub use equation::Equation;
 pub use generation::Generation;
 pub use machine::{Ended, Machine, MachineFault};

@@ -7,9 +7,9 @@ ghost use Rattle.ic_arena.specs.declared.word.TheConstants.{GIVEN, NAME};
 ghost use Rattle.ic_arena.specs.Word.{name_word};
 ghost use Rattle.ic_arena.specs.Piece.{Piece as AnyPiece, agent_of, room, waits};
 ghost use Rattle.ic_arena.specs.Tables.{register};
-ghost use Rattle.ic_machine.specs.Plan.{Plans, planned};
+ghost use Rattle.ic_machine.specs.Plan.{Plans};
 ghost use Rattle.ic_machine.specs.Separate.{IsSeparate};
-ghost use Rattle.ic_machine.specs.Runs.{IsStart, Starts, Counted, Ran};
+ghost use Rattle.ic_machine.specs.Runs.{Counted, Ran};
 ghost use Rattle.ic_machine.specs.Net.{pieces, equations_left, in_use, ArePutThrough, HasNext, IsActive, IsStuck, IsAtPlace, IsFull, IsPair};
 ghost use Rattle.ic_machine.specs.Generations.{beside, TakesFirst};
 ghost use Rattle.ic_machine.specs.declared.equation.Equation.{Equation as AnyEquation};
@@ -17,7 +17,6 @@ ghost use Rattle.ic_machine.specs.Steps.{Steps};
 ghost use Rattle.ic_machine.specs.inner.Pairs.{HasNumber, IsLast, Passed};
 
 use crate::equation::Equation;
-use crate::firing::push_given;
 use crate::places::{Parts, Places, count_places};
 use crate::plan::{Plan, Program};
 use crate::queue::Queue;
@@ -59,7 +58,7 @@ impl From<AllocError> for MachineFault {
 /// A net in tables.
 #[derive(Drop)]
 pub struct Machine {
-    interface: Vec<Word>,
+    pub(crate) interface: Vec<Word>,
     pub(crate) aside: Vec<Equation>,
     pub(crate) tables: Tables,
     pub(crate) interactions: u64,
@@ -79,41 +78,6 @@ impl Model for Machine {
 }
 
 impl Machine {
-    /// The machine that holds what a plan makes of so many given names. The words of these registers are the
-    /// interface.
-    pub fn new(
-        alloc: Global,
-        program: &Program,
-        plan: &Plan,
-        given: u32,
-        interface: &[u32],
-    ) -> Result<Machine, MachineFault>
-        requires symbols { length program.now.arities < GIVEN }
-        requires start { IsStart program.now.arities given (planned plan.now) interface.now }
-        ensures arities { IfOk result (λ m. m.arities ≡ program.now.arities) }
-        ensures starts { IfOk result (Starts program.now given (planned plan.now) interface.now) }
-        ensures aside { IfOk result (λ m. m.aside ≡ []) }
-        ensures interactions { IfOk result (λ m. m.interactions ≡ 0) }
-        ensures counts { IfOk result (λ m. m.counts ≡ map (λ plan. 0) program.now.plans) }
-        ensures separate { IfOk result (λ m.
-            IsSeparate program.now.arities m.interface (pieces m)) }
-        ensures limit { result ≡ Err MachineFault.Limit → 2 ^ 32 ≤ length plan.now.makes.items }
-    {
-        let counts = no_counts(alloc, program.plans())?;
-        let mut tables = Tables::new(alloc, program.arities())?;
-        tables.reserve(plan, given as usize)?;
-        push_given(&mut tables.registers, given);
-        tables.make(plan);
-        let interface = words_at(alloc, &tables.registers, interface)?;
-        Ok(Machine {
-            interface,
-            aside: Vec::new(alloc),
-            tables,
-            interactions: 0,
-            counts,
-        })
-    }
-
     /// A machine that holds nothing.
     pub fn empty(alloc: Global, program: &Program) -> Result<Machine, AllocError>
         requires symbols { length program.now.arities < GIVEN }
@@ -459,7 +423,7 @@ fn add_each(counts: &mut Vec<u64>, more: &[u64])
 }
 
 /// A count of 0 for each plan.
-fn no_counts(alloc: Global, plans: &[Plan]) -> Result<Vec<u64>, AllocError>
+pub(crate) fn no_counts(alloc: Global, plans: &[Plan]) -> Result<Vec<u64>, AllocError>
     ensures { IfOk result (λ v. v.items ≡ map (λ plan. 0) plans.now) }
 {
     let mut counts = Vec::with_capacity(alloc, plans.len())?;
@@ -470,7 +434,11 @@ fn no_counts(alloc: Global, plans: &[Plan]) -> Result<Vec<u64>, AllocError>
 }
 
 /// The words in these registers.
-fn words_at(alloc: Global, registers: &[Word], places: &[u32]) -> Result<Vec<Word>, AllocError>
+pub(crate) fn words_at(
+    alloc: Global,
+    registers: &[Word],
+    places: &[u32],
+) -> Result<Vec<Word>, AllocError>
     requires { AllByRecursion (λ k. k < length registers.now) places.now }
     ensures { IfOk result (λ v. v.items ≡ map (register registers.now) places.now) }
 {

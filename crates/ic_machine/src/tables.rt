@@ -5,7 +5,6 @@ ghost use Rattle.std.specs.List.{AllByRecursion};
 ghost use Rattle.ic_arena.specs.declared.word.TheConstants.{GIVEN};
 ghost use Rattle.ic_machine.specs.Net.{equated_of, IsPair};
 ghost use Rattle.ic_machine.specs.Plan.{Plans, planned, made_of, constants};
-ghost use Rattle.ic_machine.specs.Runs.{HaveHead};
 ghost use Rattle.ic_machine.specs.Separate.{IsSeparate};
 ghost use Rattle.ic_machine.specs.inner.Firing.{heaps_pieces, arities_of, AreSame, table};
 ghost use Rattle.ic_machine.specs.inner.Linking.{Pushed};
@@ -169,8 +168,6 @@ impl Tables {
         requires memory { HasMemory (planned plan.now) 0 self.old }
         ensures made { IsMade (planned plan.now) self.old self.new }
         ensures pushed { Pushed self.old.pending.items self.new.pending.items }
-        ensures head { HaveHead plan.now.links.items self.new.registers.items
-            self.old.pending.items self.new.pending.items }
         ensures arities { arities_of self.new.heaps.items ≡ arities_of self.old.heaps.items }
         ensures few { length self.new.names.entries < 2 ^ 32 }
         ensures room { (n : ℕ) → HasRoomFor (n + size_of (planned plan.now)) self.old

@@ -4,3 +4,4 @@ pub mod Spares
 pub mod Numberings
 pub mod Kept
 pub mod Forgetting
+pub mod InPlace

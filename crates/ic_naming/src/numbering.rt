@@ -12,14 +12,16 @@ use ic_text::MAX_NAME;
 use std::alloc::{AllocError, Global};
 
 /// The words with names that may stand in a text: a name that occurs once keeps its number where that may stand there,
-/// and all others are numbered by first occurrence. Memory is said to have run out where there are 2^32 - 1 names or
-/// more.
-pub fn renumbered_words(alloc: Global, words: &[Word]) -> Result<Vec<Word>, AllocError>
-    ensures { IfOk result (λ out. out.items ≡ renumbered_words words.now) }
+/// and all others are numbered by first occurrence, in place. Memory is said to have run out where there are 2^32 - 1
+/// names or more.
+pub fn renumbered_words(alloc: Global, words: Vec<Word>) -> Result<Vec<Word>, AllocError>
+    ensures { IfOk result (λ out. out.items ≡ renumbered_words words.items) }
 {
-    let names = names_of(alloc, words)?;
+    let names = names_of(alloc, &words)?;
     let numbering = Numbering::new(alloc, &names)?;
-    number_words(alloc, words, &numbering)
+    let mut words = words;
+    number_words(&mut words, &numbering);
+    Ok(words)
 }
 
 /// The names among words in their order, each as often as it occurs.
@@ -137,20 +139,13 @@ fn spare_numbers(
     Ok(spare)
 }
 
-/// The words with their names turned into those that they are told by.
-fn number_words(
-    alloc: Global,
-    words: &[Word],
-    numbering: &Numbering,
-) -> Result<Vec<Word>, AllocError>
-    ensures { IfOk result
-        (λ out. out.items ≡ map (renamed_word (told_by numbering.now)) words.now) }
+/// Turns the names of words into those that they are told by.
+fn number_words(words: &mut Vec<Word>, numbering: &Numbering)
+    ensures { words.new.items ≡ map (renamed_word (told_by numbering.now)) words.old.items }
 {
-    let mut numbered = Vec::with_capacity(alloc, words.len())?;
-    for word in words {
-        numbered.push(number_word(*word, numbering))?;
+    for place in 0..words.len() {
+        words[place] = number_word(words[place], numbering);
     }
-    Ok(numbered)
 }
 
 fn number_word(word: Word, numbering: &Numbering) -> Word

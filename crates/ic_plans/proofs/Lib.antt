@@ -12,3 +12,4 @@ pub mod RoomLemmas
 pub mod ListedLemmas
 pub mod GenerationLemmas
 pub mod PendingLemmas
+pub mod LayLemmas

@@ -7,13 +7,13 @@ use Rattle.std.proofs.lemmas.List.{length-append, length-map, length-drop, take-
 use Rattle.std.proofs.lemmas.List.Sorted.{IsPermutation-refl}
 use Rattle.std.proofs.lemmas.List.Sums.{sum_by-cons}
 use Rattle.std.specs.Cmp.{unsigned_Decides}
-use Rattle.std.specs.List.{flat_map, AllByRecursion, Contains}
+use Rattle.std.specs.List.{flat_map, list_all, AllByRecursion, Contains}
 use Rattle.ic_term.specs.Tree.{Tree, name, agent, Trees, no_trees, more_trees, names, names_of}
 use Rattle.ic_term.specs.Configuration.{Configuration, IsWide, configuration_nodes, configuration_names, occurrences}
 use Rattle.ic_term.specs.Symbol.{Symbol, AreSymbols, is_over}
 use Rattle.ic_settle.specs.lemmas.SubstitutionLaws.{All-append, All-front, All-back}
 use Rattle.ic_flat.specs.declared.word.Word.{Word}
-use Rattle.ic_flat.specs.Words.{forest, word_names}
+use Rattle.ic_flat.specs.Words.{forest, is_word_over, word_names}
 use Rattle.ic_flat.specs.Flat.{pairs_of, sides, configuration_words}
 use Rattle.ic_flat.specs.lemmas.WordTests.{names-forest}
 use Rattle.ic_flat.specs.lemmas.FlatLaws.{all_terms, pairs_of-sides, forest-configuration_words, counted-configuration_words, names-words, nodes-words, over-words}
@@ -22,7 +22,7 @@ use Rattle.ic_machine.specs.Plan.{Made, Planned, IsPlan, allowance, link_operand
 use Rattle.ic_machine.specs.Runs.{IsStart}
 use Rattle.ic_meaning.specs.Plans.{filled, filled_all, held_made, HoldConstants, linked_terms, named_terms, StandsForNet}
 use Rattle.ic_plans.specs.inner.Given.{AreGiven, AreFresh, operand_links, Numbers, number_in, register_in}
-use Rattle.ic_plans.specs.inner.Flattening.{times_read, times_made, made_operands, AreFlat, WouldBeFlat}
+use Rattle.ic_plans.specs.inner.Flattening.{times_read, times_made, made_operands, AreFlat, IsRead, WouldBeFlat}
 use Rattle.ic_plans.proofs.FlatLemmas.{count-append, count-cons, count-other, count-same, times-below, times-within, times-above}
 use Rattle.ic_plans.proofs.RegisterLemmas.{all_there, there_front}
 use Rattle.ic_plans.proofs.RuleLemmas.{not_same}
@@ -516,3 +516,15 @@ module _ (ss : List Symbol) (c : Configuration) (given others : List ℕ) (mid a
     pub first_stands : StandsForNet (map (λ s. s.arity) ss) given c (record { names = names; made = made; links = links }) interface
     first_stands = rw (names_are, interface_is, links_are)
         (net_stands ss c given others mid all made operands sound over given_there fresh_there would_there counted_there)
+
+-- what the names of the words are read from
+pub words-read : (ss : List Symbol) (c : Configuration) (given others : List ℕ) (mid all : Numbers) (ws : List Word) (n g : ℕ)
+    → ws ≡ configuration_words c → n ≡ length ss → g ≡ length given → is_over ss c ≡ true → AreGiven (flat_map word_names ws) n given mid
+    → AreFresh (flat_map word_names ws) (n + g) others mid all
+    → AllByRecursion (IsRead (map (λ s. s.arity) ss) (register_in all) (n + g + length others)) ws
+words-read ss c given others mid all ws n g words symbols givens over are_given are_fresh =
+    let ns = flat_map word_names ws in
+    let fresh = subst (λ k. AreFresh ns (n + k) others mid all) givens are_fresh in
+    let places = All_from (λ x. (length ss ≤ register_in all x) × (register_in all x < n + g + length others)) ns
+    (λ x some. let b = listed-bounds ns n given others mid all are_given fresh x some in (omega (arith, b.0, symbols), omega (arith, b.1, givens))) in
+    read_words ss (register_in all) (n + g + length others) ws places (ap (list_all (is_word_over ss)) words ∙ over-words ss c ∙ over)

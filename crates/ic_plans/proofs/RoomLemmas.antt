@@ -118,6 +118,17 @@ room-here ws i made first most d within few room =
     let count = length-take-le i ws (omega arith) in
     omega arith
 
+-- the same, where registers are counted that are filled
+pub room-now : (ws : List Word) (i filled first most : ℕ) (d : Word) → i < length ws
+    → filled + (i + 1) + length (flat_map word_names (drop (i + 1) ws)) ≤ first + length ws → first + length ws ≤ most + length (flat_map word_names ws)
+    → filled < most + length (word_names (get_or ws i d))
+room-now ws i filled first most d within few room =
+    let all = names-split ws i in
+    let here = names-here ws i d within in
+    let front = names-length (take i ws) in
+    let count = length-take-le i ws (omega arith) in
+    omega arith
+
 -- ---- registers of names
 
 module _ (ns ms : List ℕ) (count : ℕ) (given others : List ℕ) (mid all : Numbers)

@@ -3,3 +3,4 @@ pub mod Registers
 pub mod Flattening
 pub mod Entries
 pub mod Given
+pub mod Laying

@@ -1,41 +1,86 @@
-//! The plan of a configuration, which a machine begins with.
+//! A machine that begins with a configuration.
 
-ghost use Rattle.std.specs.Prelude.{◌≡◌, ◌==◌, ◌↔◌, ℕ, ◌+◌, ◌<◌, ◌≤◌, false, not, map, length, take, drop, slice_index_or, if◌then◌else◌, IfOk};
+ghost use Rattle.std.specs.Prelude.{◌≡◌, ◌==◌, ◌↔◌, ℕ, ◌+◌, ◌<◌, ◌≤◌, [], false, not, map, length, take, drop, slice_index_or, if◌then◌else◌, IfOk};
 ghost use Rattle.std.specs.List.{count_by, flat_map, Contains};
 ghost use Rattle.ic_term.specs.Configuration.{configuration_nodes, configuration_names, occurrences};
 ghost use Rattle.ic_flat.specs.Words.{word_names};
-ghost use Rattle.ic_machine.specs.Plan.{planned};
-ghost use Rattle.ic_machine.specs.Runs.{IsStart};
-ghost use Rattle.ic_meaning.specs.Plans.{StandsForNet};
+ghost use Rattle.ic_machine.specs.Net.{pieces};
+ghost use Rattle.ic_machine.specs.Separate.{IsSeparate};
+ghost use Rattle.ic_plans.specs.Beginning.{BeginsWith};
 ghost use Rattle.ic_plans.specs.inner.Given.{AreListed, HaveRegisters, numbers_from, operand_links, singles};
+ghost use Rattle.ic_plans.specs.inner.Laying.{IsLaidOut};
 
-use crate::flattening::flatten;
+use crate::laying::lay;
 use ic_flat::{WideSystem, Word};
-use ic_machine::{Link, Plan};
+use ic_machine::{Builder, Link, Machine, Program};
 use ic_names::NameTable;
 use std::alloc::{AllocError, Global};
 
-/// What a machine begins with: a plan, the names that are given to it, and the registers of its interface.
+/// The names of a machine that begins with a configuration.
 #[derive(Debug, Drop)]
 pub struct First {
-    pub plan: Plan,
+    /// How many it has, besides those that are given.
+    pub names: u32,
+    /// Those that are given to it, in the order of their numbers.
     pub given: Vec<u64>,
-    pub interface: Vec<u32>,
 }
 
-/// The plan of a configuration. It is given the names that occur once. Takes time and memory in proportion to the
-/// nodes.
-pub fn first_plan(alloc: Global, system: &WideSystem) -> Result<First, AllocError>
-    ensures start { let arities = map (λ s. s.arity) system.now.rules.symbols
-        in IfOk result (λ first. IsStart arities (length first.given.items) (planned first.plan)
-        first.interface.items) }
-    ensures stands { let arities = map (λ s. s.arity) system.now.rules.symbols
-        in IfOk result (λ first. StandsForNet arities first.given.items system.now.config
-        (planned first.plan) first.interface.items) }
-    ensures given { IfOk result (λ first. (x : ℕ)
+/// The names and agents of a configuration, and what is to be linked.
+#[derive(Drop)]
+pub(crate) struct Laid {
+    pub(crate) builder: Builder,
+    pub(crate) first: First,
+    pub(crate) interface: Vec<u32>,
+    pub(crate) links: Vec<Link>,
+}
+
+/// The machine that begins with a configuration. It is given the names that occur once. Takes time and memory in
+/// proportion to the nodes.
+pub fn begin(
+    alloc: Global,
+    program: &Program,
+    system: &WideSystem,
+) -> Result<(Machine, First), AllocError>
+    requires arities { program.now.arities ≡ map (λ s. s.arity) system.now.rules.symbols }
+    ensures begins { IfOk result (λ begun. BeginsWith system.now program.now
+        begun.1.given.items begun.0) }
+    ensures given { IfOk result (λ begun. (x : ℕ)
         → (occurrences x (configuration_names system.now.config) ≡ 1)
-        ↔ Contains first.given.items x) }
-    ensures few { IfOk result (λ first. length first.given.items
+        ↔ Contains begun.1.given.items x) }
+    ensures few { IfOk result (λ begun. length begun.1.given.items
+        ≤ configuration_nodes system.now.config) }
+    ensures arities { IfOk result (λ begun. begun.0.arities ≡ program.now.arities) }
+    ensures aside { IfOk result (λ begun. begun.0.aside ≡ []) }
+    ensures interactions { IfOk result (λ begun. begun.0.interactions ≡ 0) }
+    ensures counts { IfOk result (λ begun.
+        begun.0.counts ≡ map (λ plan. 0) program.now.plans) }
+    ensures separate { IfOk result (λ begun.
+        IsSeparate program.now.arities begun.0.interface (pieces begun.0)) }
+{
+    let Laid {
+        builder,
+        first,
+        interface,
+        links,
+    } = lay_out(alloc, program, system)?;
+    let machine = builder.finish(alloc, program, &links, &interface)?;
+    Ok((machine, first))
+}
+
+/// Makes the names and agents of a configuration.
+pub(crate) fn lay_out(
+    alloc: Global,
+    program: &Program,
+    system: &WideSystem,
+) -> Result<Laid, AllocError>
+    requires arities { program.now.arities ≡ map (λ s. s.arity) system.now.rules.symbols }
+    ensures laid { IfOk result (λ laid. IsLaidOut (map (λ s. s.arity) system.now.rules.symbols)
+        laid.first.given.items system.now.config laid.first.names laid.interface.items
+        laid.links.items laid.builder) }
+    ensures given { IfOk result (λ laid. (x : ℕ)
+        → (occurrences x (configuration_names system.now.config) ≡ 1)
+        ↔ Contains laid.first.given.items x) }
+    ensures few { IfOk result (λ laid. length laid.first.given.items
         ≤ configuration_nodes system.now.config) }
 {
     let config = system.config();
@@ -45,19 +90,16 @@ pub fn first_plan(alloc: Global, system: &WideSystem) -> Result<First, AllocErro
     let all = occurring.as_slice();
     let (given, names, registers) = give_registers(alloc, all, count)?;
     drop(occurring);
-    let start = count + given.len() as u32;
+    let mut builder = Builder::new(alloc, program, given.len() as u32, names)?;
     let reads = registers.as_slice();
-    let (makes, operands) = flatten(alloc, words, reads, start + names)?;
+    let operands = lay(alloc, words, reads, &mut builder)?;
     let (interface, links) = split_operands(alloc, &operands, config.interface_len())?;
-    let plan = Plan {
-        names,
-        makes,
-        links,
-    };
-    Ok(First {
-        plan,
-        given,
+    let first = First { names, given };
+    Ok(Laid {
+        builder,
+        first,
         interface,
+        links,
     })
 }
 

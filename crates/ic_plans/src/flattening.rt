@@ -72,7 +72,7 @@ fn put_word(
 }
 
 /// How many names a word is.
-fn names_in(word: Word) -> usize
+pub(crate) fn names_in(word: Word) -> usize
     ensures { result ≡ length (word_names word) }
 {
     match word {
@@ -82,7 +82,7 @@ fn names_in(word: Word) -> usize
 }
 
 /// The register at a place, or zero.
-fn register_at(registers: &[u32], place: usize) -> u32
+pub(crate) fn register_at(registers: &[u32], place: usize) -> u32
     ensures { result ≡ slice_index_or registers.now place 0 }
 {
     match registers.get(place) {

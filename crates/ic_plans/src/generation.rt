@@ -1,60 +1,54 @@
-//! The plan of a configuration of which the first generation of pairs is known.
+//! A machine that begins with a configuration of which the first generation of pairs is known.
 
-ghost use Rattle.std.specs.Prelude.{◌≡◌, ◌↔◌, ℕ, ◌≤◌, ◌++◌, ◌||◌, ◌&&◌, not, map, length, nat_lt, nat_le, filter, IfOk};
+ghost use Rattle.std.specs.Prelude.{◌≡◌, ◌↔◌, ℕ, ◌≤◌, ◌++◌, ◌||◌, ◌&&◌, [], not, map, length, nat_lt, nat_le, filter, IfOk};
 ghost use Rattle.std.specs.List.{Contains};
 ghost use Rattle.ic_term.specs.Configuration.{configuration_nodes, configuration_names, occurrences};
-ghost use Rattle.ic_machine.specs.Plan.{planned};
-ghost use Rattle.ic_machine.specs.Runs.{IsStart};
-ghost use Rattle.ic_meaning.specs.Plans.{StandsForNet};
+ghost use Rattle.ic_machine.specs.Net.{pieces};
+ghost use Rattle.ic_machine.specs.Separate.{IsSeparate};
 ghost use Rattle.ic_meaning.specs.First.{holds_agent, joins_agents, LinksPairsFirst};
+ghost use Rattle.ic_plans.specs.Beginning.{BeginsWith};
 
-use crate::first::{First, first_plan};
+use crate::first::{First, Laid, lay_out};
 use ic_flat::WideSystem;
-use ic_machine::{Link, Plan};
+use ic_machine::{Link, Machine, Program};
 use std::alloc::{AllocError, Global};
 
-/// The plan of a configuration that links its equations of two agents before all others, and how many these are: a machine that
-/// begins with it has these pairs pending first. Else the plan is as that of `first_plan`.
-pub fn first_generation(alloc: Global, system: &WideSystem) -> Result<(First, usize), AllocError>
-    ensures start { let arities = map (λ s. s.arity) system.now.rules.symbols
-        in IfOk result (λ made. IsStart arities (length made.0.given.items)
-        (planned made.0.plan) made.0.interface.items) }
-    ensures stands { let arities = map (λ s. s.arity) system.now.rules.symbols
-        in IfOk result (λ made. StandsForNet arities made.0.given.items system.now.config
-        (planned made.0.plan) made.0.interface.items) }
-    ensures given { IfOk result (λ made. (x : ℕ)
+/// The machine that begins with a configuration and links its equations of two agents before all others, and how many these
+/// are: it has these pairs pending first. Else it is as that of `begin`.
+pub fn begin_with_pairs(
+    alloc: Global,
+    program: &Program,
+    system: &WideSystem,
+) -> Result<(Machine, First, usize), AllocError>
+    requires arities { program.now.arities ≡ map (λ s. s.arity) system.now.rules.symbols }
+    ensures begins { IfOk result (λ begun. (begins : BeginsWith system.now program.now
+        begun.1.given.items begun.0)
+        × LinksPairsFirst (map (λ s. s.arity) system.now.rules.symbols)
+        (length begun.1.given.items) begins.plan begun.2) }
+    ensures given { IfOk result (λ begun. (x : ℕ)
         → (occurrences x (configuration_names system.now.config) ≡ 1)
-        ↔ Contains made.0.given.items x) }
-    ensures few { IfOk result (λ made. length made.0.given.items
+        ↔ Contains begun.1.given.items x) }
+    ensures few { IfOk result (λ begun. length begun.1.given.items
         ≤ configuration_nodes system.now.config) }
-    ensures pairs { let arities = map (λ s. s.arity) system.now.rules.symbols
-        in IfOk result (λ made. LinksPairsFirst arities (length made.0.given.items)
-        (planned made.0.plan) made.1) }
+    ensures arities { IfOk result (λ begun. begun.0.arities ≡ program.now.arities) }
+    ensures aside { IfOk result (λ begun. begun.0.aside ≡ []) }
+    ensures interactions { IfOk result (λ begun. begun.0.interactions ≡ 0) }
+    ensures counts { IfOk result (λ begun.
+        begun.0.counts ≡ map (λ plan. 0) program.now.plans) }
+    ensures separate { IfOk result (λ begun.
+        IsSeparate program.now.arities begun.0.interface (pieces begun.0)) }
 {
-    let First {
-        plan,
-        given,
+    let Laid {
+        builder,
+        first,
         interface,
-    } = first_plan(alloc, system)?;
-    let Plan {
-        names,
-        makes,
         links,
-    } = plan;
+    } = lay_out(alloc, program, system)?;
     let constants = system.rules().symbols().len();
-    let made = constants + given.len() + names as usize;
+    let made = constants + first.given.len() + first.names as usize;
     let (links, pairs) = agents_first(alloc, &links, constants, made)?;
-    let plan = Plan {
-        names,
-        makes,
-        links,
-    };
-    let first = First {
-        plan,
-        given,
-        interface,
-    };
-    Ok((first, pairs))
+    let machine = builder.finish(alloc, program, &links, &interface)?;
+    Ok((machine, first, pairs))
 }
 
 /// Links of two agents before the others, each of both in their order, and how many the first are.

@@ -16,9 +16,9 @@ use crate::laws::what_parts_come_to_is_reached;
 use crate::policy::Policy;
 use ic_flat::WideSystem;
 use ic_in_place::laws::a_run_that_goes_on_stops_by_the_bounds_of_all;
-use ic_in_place::{Bounds, Gauge, Stopped, Watch, begin, no_counts, run_in_pieces, sum_by_rule};
+use ic_in_place::{Bounds, Gauge, Stopped, Watch, no_counts, run_in_pieces, sum_by_rule};
 use ic_machine::{Machine, Program};
-use ic_plans::{compile, first_plan};
+use ic_plans::{begin, compile};
 use std::alloc::{AllocError, Global};
 use std::sync::atomic::AtomicBool;
 use std::thread::{self, Threads};
@@ -68,9 +68,8 @@ fn run_compiled<R: Threads + Sync, C: Clock + Sync, V: Watch>(
     what_parts_come_to_is_reached();
     a_run_that_goes_on_stops_by_the_bounds_of_all();
     systems_are_sound(system);
-    let first = first_plan(alloc, system)?;
+    let (machine, first) = begin(alloc, program, system)?;
     let gauge = Gauge::new(alloc, system, &first, numbers, bounds.nodes)?;
-    let machine = begin(alloc, system, program, &first)?;
     let mut machine = run_parts(
         rt,
         clock,

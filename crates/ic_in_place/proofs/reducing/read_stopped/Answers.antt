@@ -6,7 +6,7 @@ use Rattle.ic_in_place.proofs.reducing.read_stopped.Goals as goal
 pub returns-clause-read : goal.returns-clause-read
 returns-clause-read c = λ bounds come.
     let read = c.in_ok-reached.ensures.read bounds come in
-    let words = c.in_ok-renumbered_words.ensures ∙ ap renumbered_words c.deref.ensures.value in (
+    let words = c.in_ok-renumbered_words.ensures in (
       read.0,
       read.1,
       read.2,
