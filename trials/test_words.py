@@ -2,6 +2,7 @@
 beside what, and what a terminal is shown of a refused one."""
 
 import itertools
+import os
 import re
 
 from known import TEXT_WORDS
@@ -15,12 +16,12 @@ RANGE = re.compile(r"from (\d+) to (\d+)")
 
 # What of `reduce` may not stand beside what.
 APART = {
-    "--rounds": ["--steps", "--keep", "--resume", "--seconds", "--workers"],
-    "--keep": ["--resume", "--limits"],
-    "--resume": ["--limits", "--rich", "--plain", "FILE"],
+    "--rounds": ["--steps", "--keep", "--resume", "--seconds", "--workers", "--span", "--profile"],
+    "--keep": ["--resume", "--limits", "--span", "--profile"],
+    "--resume": ["--limits", "--rich", "--plain", "--span", "--profile", "FILE"],
 }
-GIVEN = {"--limits": "wide", "--format": "json", "--keep": "F", "--resume": "G", "FILE": "text"}
-FLAGS = ("--rich", "--plain", "--partial", "--with-rules", "--quiet-answer", "--stats", "--from-one-file")
+GIVEN = {"--limits": "wide", "--format": "json", "--keep": "F", "--resume": "G", "--profile": os.devnull, "FILE": "text"}
+FLAGS = ("--rich", "--plain", "--partial", "--with-rules", "--quiet-answer", "--stats", "--span", "--from-one-file")
 
 
 def help_of(*words):

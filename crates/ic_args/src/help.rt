@@ -134,11 +134,12 @@ pub(crate) fn after(word: Word) -> &'static str {
 const REDUCE: &str = "\
 A round fires all active pairs at once, and then removes names that only join two terms.
 Beside --rounds, with which one thread reduces, no --steps, --workers, --keep or --resume may
-stand, and beside --keep and --resume no --limits.
+stand, and beside --keep and --resume no --limits. No --span or --profile may stand beside these
+three: they tell, in any order and by any number of threads, what rounds would do.
 Without --workers and --steps as many threads reduce as the process may use processors, at most 64.
 Several may leave the same equations in another order and with other names each time.
 Compare the seconds of --stats with those of --workers 1 to see whether several were faster.
-Without --stats, --format changes nothing. The limits served are those of a job's text.
+Without --stats or --span, --format changes nothing. The limits served are those of a job's text.
 What --nodes bounds are the names and agents that the net has at a time; a name counts once. They
 are counted often enough that it is passed by a sixteenth and one interaction at most.
 If two agents are left that have no rule, the first pair is told: icserve: stuck A><B

@@ -325,12 +325,27 @@ pub const FIGURES: Choice = Choice {
     help: "How --stats tells it",
 };
 
+/// Whether it is told how many rounds there would be.
+pub const SPAN: Flag = Flag {
+    name: "span",
+    help: "Tell these figures with the span, and how many pairs could fire at once",
+};
+
+/// Where it is written how many pairs each round would fire.
+pub const PROFILE: Text = Text {
+    name: "profile",
+    shown: "TO",
+    needed: false,
+    apart: &[],
+    help: "Write how many pairs each round would fire, as a picture in a file *.svg",
+};
+
 /// Where a reduction is kept that begins.
 pub const KEEP: Text = Text {
     name: "keep",
     shown: "F",
     needed: false,
-    apart: &["resume", "limits"],
+    apart: &["resume", "limits", "span", "profile"],
     help: "Keep what is reached in the new files F and F.2, also at the end",
 };
 
@@ -339,7 +354,7 @@ pub const RESUME: Text = Text {
     name: "resume",
     shown: "F",
     needed: false,
-    apart: &["limits", "file", "rich", "plain"],
+    apart: &["limits", "file", "rich", "plain", "span", "profile"],
     help: "Go on with what is kept in F and F.2, and keep it there",
 };
 
@@ -367,7 +382,7 @@ pub const ROUNDS: Number = Number {
     least: 0,
     most: MAX_ROUNDS,
     default: None,
-    apart: &["steps", "keep", "resume", "seconds", "workers"],
+    apart: &["steps", "keep", "resume", "seconds", "workers", "span", "profile"],
     help: "Make rounds, and at most so many, from 0 to 4611686018427387904",
 };
 
@@ -394,6 +409,8 @@ const REDUCE: &[Argument] = &[
     Argument::Flag(QUIET),
     Argument::Flag(STATS),
     Argument::Choice(FIGURES),
+    Argument::Flag(SPAN),
+    Argument::Text(PROFILE),
     Argument::Text(KEEP),
     Argument::Text(RESUME),
     Argument::Flag(ONE_FILE),

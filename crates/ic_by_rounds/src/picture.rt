@@ -13,10 +13,10 @@ struct Scale {
     line: u64,
 }
 
-/// The picture of rounds: a bar for each column, and a line through the nodes before the first and after each.
+/// The picture of rounds: a bar for each column, and a line through the nodes before the first and after each, if these are known.
 pub(crate) fn picture(
     alloc: Global,
-    before: u64,
+    before: Option<u64>,
     columns: &Columns,
     summary: Summary,
 ) -> Result<Vec<u8>, AllocError> {
@@ -24,8 +24,11 @@ pub(crate) fn picture(
     let mut out = String::new(alloc);
     put_title(columns.width(), summary, &mut out)?;
     put_bars(columns.as_slice(), scale, &mut out)?;
-    put_line(columns.as_slice(), before, scale, &mut out)?;
-    put_axes(scale.bars, summary, &mut out)?;
+    if let Some(nodes) = before {
+        put_line(columns.as_slice(), nodes, scale, &mut out)?;
+    }
+    let nodes = before.map(|_| summary.nodes);
+    put_axes(scale.bars, nodes, summary.rounds, &mut out)?;
     Ok(out.into_bytes())
 }
 
@@ -112,20 +115,35 @@ fn put_point(scale: Scale, place: u64, nodes: u64, out: &mut String) -> Result<(
     write!(out, "{across},{up}\n")
 }
 
-/// Appends the axes and their numbers.
-fn put_axes(bars: u64, summary: Summary, out: &mut String) -> Result<(), AllocError> {
-    let Summary { rounds, nodes, .. } = summary;
+/// Appends the axes and their numbers: those of the line only if there is one, which goes up to so many nodes.
+fn put_axes(
+    bars: u64,
+    nodes: Option<u64>,
+    rounds: u64,
+    out: &mut String,
+) -> Result<(), AllocError> {
     let greatest = if rounds == 0 { 0 } else { bars };
+    out.push_str(
+        "<path d='M80 50V400H720V50' fill='none' stroke='black'/>\n\
+         <text x='80' y='42'>pairs fired (bars)</text>\n",
+    )?;
+    if nodes.is_some() {
+        out.push_str("<text x='720' y='42' text-anchor='end'>nodes (line)</text>\n")?;
+    }
     write!(
         out,
-        "<path d='M80 50V400H720V50' fill='none' stroke='black'/>\n\
-         <text x='80' y='42'>pairs fired (bars)</text>\n\
-         <text x='720' y='42' text-anchor='end'>nodes (line)</text>\n\
-         <text x='74' y='56' text-anchor='end'>{greatest}</text>\n\
-         <text x='74' y='404' text-anchor='end'>0</text>\n\
-         <text x='726' y='56'>{nodes}</text>\n\
-         <text x='726' y='404'>0</text>\n\
-         <text x='80' y='420'>0</text>\n\
+        "<text x='74' y='56' text-anchor='end'>{greatest}</text>\n\
+         <text x='74' y='404' text-anchor='end'>0</text>\n"
+    )?;
+    if let Some(nodes) = nodes {
+        write!(
+            out,
+            "<text x='726' y='56'>{nodes}</text>\n<text x='726' y='404'>0</text>\n"
+        )?;
+    }
+    write!(
+        out,
+        "<text x='80' y='420'>0</text>\n\
          <text x='400' y='440' text-anchor='middle'>rounds</text>\n\
          <text x='720' y='420' text-anchor='end'>{rounds}</text>\n\
          </svg>\n"

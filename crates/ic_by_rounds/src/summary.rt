@@ -37,8 +37,19 @@ impl Summary {
         }
     }
 
+    /// Of rounds that fired so many pairs each, the last of them some. Nothing is known of nodes.
+    pub fn of_pairs(pairs: &[u64]) -> Summary {
+        let mut summary = Summary::new(0);
+        for fired in pairs {
+            summary.rounds = summary.rounds.saturating_add(1);
+            summary.interactions = summary.interactions.saturating_add(*fired);
+            summary.greatest = summary.greatest.max(*fired);
+        }
+        summary
+    }
+
     /// How many pairs a round fired on average, and the tenths of it.
-    pub(crate) fn average(self) -> (u64, u64) {
+    pub fn average(self) -> (u64, u64) {
         let tenths = u128::from(self.interactions) * 10 / u128::from(self.rounds.max(1));
         ((tenths / 10) as u64, (tenths % 10) as u64)
     }

@@ -105,7 +105,8 @@ impl Tracing {
         }
         match self.format {
             Format::Picture => {
-                let drawn = picture(self.alloc, self.before, &self.columns, self.summary)?;
+                let before = Some(self.before);
+                let drawn = picture(self.alloc, before, &self.columns, self.summary)?;
                 write_line(writer, &drawn)
             }
             Format::Table | Format::Objects => self.write(writer),

@@ -44,6 +44,8 @@ pub struct Reduced {
     pub left: u64,
     /// How many interactions were made before one machine had all: none by one thread.
     pub shared: u64,
+    /// How many pairs each round would have fired, from the first one on, if that was to be known and is. It is tried, not proved.
+    pub by_round: Option<Vec<u64>>,
     /// Why the reduction ended.
     pub end: End,
 }
@@ -61,6 +63,8 @@ pub struct Stopped {
     pub nodes: u64,
     /// How many interactions were made before the machine got all that several threads had: none by one thread.
     pub shared: u64,
+    /// How many pairs each round would have fired, from the first one on, if that was to be known and is. It is tried, not proved.
+    pub by_round: Option<Vec<u64>>,
     /// Why it stopped.
     pub end: End,
 }
@@ -112,6 +116,7 @@ pub fn read_stopped(
         nodes: reached.nodes,
         left: reached.left,
         shared: reached.shared,
+        by_round: reached.by_round,
         end: reached.end,
     })
 }
@@ -169,6 +174,7 @@ pub(crate) fn read_words(
         nodes,
         left,
         shared,
+        by_round: stopped.by_round,
         end,
     })
 }
@@ -205,18 +211,20 @@ fn run_compiled<V: Watch>(
 {
     crate::laws::what_a_machine_holds_is_reached();
     systems_are_sound(system);
-    let (mut machine, first) = begin(alloc, program, system)?;
+    let (mut machine, first) = begin(alloc, program, system, watch.wants_rounds())?;
     let mut by_rule = no_counts(alloc, system.rules().rules().len())?;
     let gauge = Gauge::new(alloc, system, &first, numbers, bounds.nodes)?;
     let end = run_in_pieces(&mut machine, program, &gauge, bounds.steps, watch);
     sum_by_rule(&mut by_rule, numbers, machine.fired());
     let nodes = gauge.nodes(&machine);
+    let by_round = machine.take_rounds(alloc);
     Ok(Stopped {
         machine,
         given: first.given,
         by_rule,
         nodes,
         shared: 0,
+        by_round,
         end,
     })
 }

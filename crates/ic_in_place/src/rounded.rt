@@ -197,6 +197,7 @@ fn round_compiled<V: Watch, S: Rows<W>, W: Write>(
         by_rule,
         nodes,
         shared: 0,
+        by_round: None,
         end,
     };
     Ok((stopped, rounds))

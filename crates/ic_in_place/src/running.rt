@@ -42,6 +42,9 @@ pub enum End {
 /// Who is told between the pieces of a run how far it has come, and how many names and agents the last look found.
 pub trait Watch {
     fn saw(&self, interactions: u64, nodes: u64);
+
+    /// Whether it is to be known in which rounds the pairs would fire that fire in any order.
+    fn wants_rounds(&self) -> bool;
 }
 
 /// Runs a machine in pieces, until no pair is left or so many interactions are made, a look finds too much, or a limit is met.

@@ -58,6 +58,8 @@ pub struct Outcome {
     pub left: u64,
     /// How many interactions were made before all that several threads had was put together: none by one thread.
     pub shared: u64,
+    /// How many pairs each round would have fired, from the first one on, if that was to be known and is. It is tried, not proved.
+    pub by_round: Option<Vec<u64>>,
     /// The symbols of the first equation of two agents, where the end is quiet.
     pub stuck: Option<Vec<u8>>,
     /// The symbol at which the first circle is closed, where the end is quiet.
@@ -167,6 +169,7 @@ pub fn stopped_line(
         nodes: reduced.nodes,
         left: reduced.left,
         shared,
+        by_round: reduced.by_round,
         stuck: at_end.stuck,
         circle: at_end.circle,
     };
@@ -218,6 +221,7 @@ fn unwritten(alloc: Global, system: WideSystem, stopped: Stopped) -> Result<Outc
         nodes: stopped.nodes,
         left,
         shared: stopped.shared,
+        by_round: stopped.by_round,
         stuck: None,
         circle: None,
     })
@@ -255,6 +259,7 @@ fn read_unwritten(
         nodes: read.nodes,
         left: read.left,
         shared,
+        by_round: read.by_round,
         stuck: at_end.stuck,
         circle: at_end.circle,
     })

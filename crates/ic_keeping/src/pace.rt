@@ -111,4 +111,8 @@ impl<C: Clock, V: Watch> Watch for Timed<'_, C, V> {
         self.watch
             .saw(self.before.saturating_add(interactions), nodes);
     }
+
+    fn wants_rounds(&self) -> bool {
+        false
+    }
 }

@@ -34,6 +34,7 @@ pub mod Grown
 pub mod Packing
 pub mod Parcels
 pub mod Agents
+pub mod Apart
 pub mod Opening
 pub mod Waiting
 pub mod ByHand

@@ -495,7 +495,7 @@ one_front x y b g c e =
     subst (λ l. IsPermutation l (y ∷ (g ++ c))) (sym (list_tails x y b (g ++ x ∷ c) e))
     (subst (λ v. IsPermutation (g ++ x ∷ c) (v ∷ (g ++ c))) (list_heads x y b (g ++ x ∷ c) e) (IsPermutation-middle g x c))
 
-one_out : {X : Type 0} (x : X) (f b g c : List X) → f ++ x ∷ b ≡ g ++ x ∷ c → IsPermutation (f ++ b) (g ++ c)
+pub one_out : {X : Type 0} (x : X) (f b g c : List X) → f ++ x ∷ b ≡ g ++ x ∷ c → IsPermutation (f ++ b) (g ++ c)
 one_out x [] b [] c e = subst (λ l. IsPermutation b l) (list_tails x x b c e) (IsPermutation-refl b)
 one_out x [] b (y ∷ g) c e = one_front x y b g c e
 one_out x (y ∷ f) b [] c e = IsPermutation-sym c (y ∷ (f ++ b)) (one_front x y c f b (sym e))

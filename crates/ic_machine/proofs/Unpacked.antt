@@ -93,7 +93,7 @@ ends_count w bs cs e perm =
     sym (sum_by-IsPermutation (λ (v : Word). cond (word_eq w v) 1 0) (map end_word bs) (map end_word (e ∷ cs)) (IsPermutation-map end_word bs (e ∷ cs) perm))
     ∙ sum_by-cons (λ (v : Word). cond (word_eq w v) 1 0) (end_word e) (map end_word cs)
 
-one_more_word : (w v : Word) (ws : List Word) → count w (ws ++ v ∷ []) ≡ count w ws + cond (word_eq w v) 1 0
+pub one_more_word : (w v : Word) (ws : List Word) → count w (ws ++ v ∷ []) ≡ count w ws + cond (word_eq w v) 1 0
 one_more_word w v ws =
     let b = sum_by-cons (λ (x : Word). cond (word_eq w x) 1 0) v [] in
     omega (arith, sum_by-append {X = Word})

@@ -89,13 +89,14 @@ impl Builder {
     }
 
     /// The machine that begins with these names and agents, linked in this order. The words of these registers are the
-    /// interface.
+    /// interface. It knows in which rounds the pairs would fire that it runs, if it is to know that.
     pub fn finish(
         self,
         alloc: Global,
         program: &Program,
         links: &[Link],
         interface: &[u32],
+        knows_rounds: bool,
     ) -> Result<Machine, AllocError>
         requires arities { self.arities ≡ program.now.arities }
         requires begins { CanBegin links.now interface.now self }
@@ -112,9 +113,11 @@ impl Builder {
         let counts = no_counts(alloc, program.plans())?;
         let interface = words_at(alloc, &tables.registers, interface)?;
         tables.pending.reserve(links.len())?;
+        tables.stamps.begin(knows_rounds);
         link_each(
             &mut tables.names,
             &mut tables.pending,
+            &mut tables.stamps,
             links,
             &tables.registers,
         );

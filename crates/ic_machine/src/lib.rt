@@ -17,6 +17,7 @@ mod pairs;
 mod places;
 mod plan;
 mod queue;
+mod stamps;
 mod sweeping;
 mod tables;
 mod telling;

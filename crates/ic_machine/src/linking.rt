@@ -13,10 +13,17 @@ ghost use Rattle.ic_machine.specs.inner.Linking.{AreNamed, AreLinks, IsEnd, IsTa
 use crate::equation::Equation;
 use crate::plan::Link;
 use crate::queue::Queue;
+use crate::stamps::Stamps;
 use ic_arena::{IDLE, NAME, Names, Word};
 
 /// Links equations whose sides are in registers.
-pub(crate) fn link_each(names: &mut Names, pending: &mut Queue, links: &[Link], registers: &[Word])
+pub(crate) fn link_each(
+    names: &mut Names,
+    pending: &mut Queue,
+    stamps: &mut Stamps,
+    links: &[Link],
+    registers: &[Word],
+)
     requires links { AreLinks links.now registers.now names.old.entries }
     requires room { length pending.old.items + length links.now ≤ pending.old.capacity }
     ensures steps { (p : Plans) (rest : List Piece) → Steps p []
@@ -39,6 +46,7 @@ pub(crate) fn link_each(names: &mut Names, pending: &mut Queue, links: &[Link], 
             left: registers[each.left as usize],
             right: registers[each.right as usize],
         };
+        stamps.stamp(names, pending, equation);
         link(names, pending, equation);
     }
 }

@@ -223,7 +223,7 @@ impl Machine {
         ensures places { AllByRecursion IsAtPlace self.new.places }
         ensures separate { IsSeparate self.new.arities self.new.interface (pieces self.new) }
     {
-        sweep(&mut self.tables.names);
+        sweep(&mut self.tables.names, &mut self.tables.stamps);
     }
 
     /// How many names there are, the free ones too.
@@ -333,6 +333,15 @@ impl Machine {
     {
         self.interactions += other.interactions;
         add_each(&mut self.counts, &other.counts);
+        self.tables.stamps.add_all(&other.tables.stamps);
+    }
+
+    /// How many of the pairs that `run` has fired would have fired in each round, from the first one on, if it knows that: it was
+    /// to know it, and memory wasn't refused for that. It is told once.
+    pub fn take_rounds(&mut self, alloc: Global) -> Option<Vec<u64>>
+        ensures { self.new ≡ self.old }
+    {
+        self.tables.stamps.take_fired(alloc)
     }
 
     /// Takes the machine apart.

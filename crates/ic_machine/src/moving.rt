@@ -20,6 +20,7 @@ use crate::firing::{MAX_ENTRIES, take};
 use crate::machine::Machine;
 use crate::places::turn;
 use crate::queue::Queue;
+use crate::stamps::Carried;
 use crate::tables::Tables;
 use ic_arena::{FREE, GIVEN, Heap, IDLE, NAME, Names, Word};
 use std::alloc::{AllocError, Global};
@@ -32,6 +33,7 @@ pub struct Parcel {
     pub words: Vec<Word>,
     /// Words that are still to be packed, the first on top. What is here between two calls means nothing.
     stack: Vec<Word>,
+    pub(crate) stamps: Carried,
 }
 
 impl Parcel {
@@ -41,6 +43,7 @@ impl Parcel {
         Parcel {
             words: Vec::new(alloc),
             stack: Vec::new(alloc),
+            stamps: Carried::new(alloc),
         }
     }
 }
@@ -72,6 +75,7 @@ impl Machine {
         self.tables.spare = 0;
         let rest = self.tables.pending.split_off(pairs)?;
         let given = replace(&mut self.tables.pending, rest);
+        self.tables.stamps.carry_pairs(pairs, &mut parcel.stamps);
         pack_each(&mut self.tables, given.as_slice(), borders, parcel)?;
         Ok(())
     }
@@ -179,7 +183,9 @@ fn give_tables(
     ensures size { HasMoreNames tables.old tables.new }
 {
     ship_each(tables, cuts, borders, parcel)?;
+    tables.stamps.carry_pairs(pending.len(), &mut parcel.stamps);
     pack_each(tables, pending, borders, parcel)?;
+    tables.stamps.carry_stuck(aside.len(), &mut parcel.stamps);
     pack_each(tables, aside, borders, parcel)?;
     pack_circles(tables, borders, parcel)?;
     // Each agent hangs below a side or a word that waits, as the names of places occur twice. That is tested.
@@ -273,6 +279,11 @@ fn pack(
     parcel.stack.push(word)?;
     while let Some(next) = parcel.stack.pop() {
         if next.tag == NAME {
+            let place = parcel.words.len();
+            let stamps = &mut parcel.stamps;
+            tables
+                .stamps
+                .carry_waiting(&tables.names, next.index, place, stamps);
             pack_name(&mut tables.names, next.index, borders, parcel)?;
         } else {
             pack_agent(&mut tables.heaps, next, parcel)?;
@@ -413,6 +424,7 @@ fn ship_from(
         return Ok(false);
     }
     parcel.words.reserve(1)?;
+    tables.stamps.carry_name(name, &mut parcel.stamps);
     borders.remove(cut, name);
     tables.names.free(name);
     parcel.words.push_reserved(Word {
@@ -514,6 +526,7 @@ fn pack_circle(
     tables.names.reserve(1)?;
     let left = Word::name(tables.names.open());
     tables.names.replace(name, left);
+    tables.stamps.carry_name(name, &mut parcel.stamps);
     pack_equation(tables, Equation { left, right }, borders, parcel)?;
     Ok(())
 }

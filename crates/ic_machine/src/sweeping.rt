@@ -7,10 +7,11 @@ ghost use Rattle.ic_machine.specs.Plan.{Plans};
 ghost use Rattle.ic_machine.specs.Steps.{Steps};
 ghost use Rattle.ic_machine.specs.inner.Sweeping.{IsThrough, IsRoomy};
 
+use crate::stamps::Stamps;
 use ic_arena::{IDLE, NAME, Names};
 
 /// Puts each name through.
-pub(crate) fn sweep(names: &mut Names)
+pub(crate) fn sweep(names: &mut Names, stamps: &mut Stamps)
     requires few { length names.old.entries < 2 ^ 32 }
     requires room { IsRoomy names.old.entries }
     ensures steps { (p : Plans) (rest : List Piece) → Steps p []
@@ -22,6 +23,7 @@ pub(crate) fn sweep(names: &mut Names)
     ensures memory { names.new.capacity ≡ names.old.capacity }
 {
     for name in 0..names.len() {
+        stamps.join(names, name as u32);
         put_through(names, name as u32);
     }
 }

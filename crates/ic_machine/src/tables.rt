@@ -16,6 +16,7 @@ use crate::linking::link_each;
 use crate::machine::MachineFault;
 use crate::plan::Plan;
 use crate::queue::Queue;
+use crate::stamps::Stamps;
 use ic_arena::{Heap, Names, Word};
 use std::alloc::{AllocError, Global};
 
@@ -34,6 +35,8 @@ pub(crate) struct Tables {
     pub(crate) registers: Vec<Word>,
     /// So many names, links, and agents of each symbol can be made with the memory that is there.
     pub(crate) spare: usize,
+    /// In which rounds pairs would fire.
+    pub(crate) stamps: Stamps,
 }
 
 impl Tables {
@@ -65,6 +68,7 @@ impl Tables {
             pending: Queue::new(alloc),
             registers,
             spare: 0,
+            stamps: Stamps::new(alloc),
         })
     }
 
@@ -179,6 +183,7 @@ impl Tables {
         link_each(
             &mut self.names,
             &mut self.pending,
+            &mut self.stamps,
             &plan.links,
             &self.registers,
         );
@@ -219,6 +224,7 @@ impl Tables {
     {
         let arguments = self.arguments(pair);
         self.prepare(plan, arguments)?;
+        self.stamps.count_last(&self.pending);
         self.pending.pop();
         self.fire(pair, plan);
         Ok(())

@@ -16,7 +16,7 @@ ghost use Rattle.ic_machine.specs.Steps.{Steps};
 ghost use Rattle.ic_machine.specs.inner.Firing.{heaps_pieces, arities_of};
 ghost use Rattle.ic_machine.specs.inner.Linking.{Pushed};
 ghost use Rattle.ic_machine.specs.inner.Moving.{side_in};
-ghost use Rattle.ic_machine.specs.inner.Unpacking.{pairs_on, AreEntered, AreKept, BlocksGrow, HasFullBlocks, HasFullTable, IsNext, MakesAgent, NamesGrow, PutsAgent, TablesGrow, UnpacksName};
+ghost use Rattle.ic_machine.specs.inner.Unpacking.{pairs_on, AreEntered, AreKept, BlocksGrow, HasFullBlocks, HasFullTable, IsNext, MakesAgent, NamesGrow, PutsAgent, SetsApart, TablesGrow, UnpacksName};
 
 use crate::borders::Borders;
 use crate::equation::Equation;
@@ -24,6 +24,7 @@ use crate::firing::MAX_ENTRIES;
 use crate::linking::link;
 use crate::machine::{Machine, MachineFault};
 use crate::moving::Parcel;
+use crate::stamps::{Carried, Stamps};
 use crate::tables::Tables;
 use ic_arena::{Heap, IDLE, NAME, Names, Word};
 use std::alloc::{AllocError, Global};
@@ -53,9 +54,17 @@ impl Machine {
     {
         self.tables.spare = 0;
         let mut stack = Vec::new(alloc);
-        put_words(alloc, &mut self.tables, &parcel.words, borders, &mut stack)?;
+        self.tables.stamps.take_in(&parcel.stamps);
+        put_words(
+            alloc,
+            &mut self.tables,
+            &parcel.words,
+            &mut parcel.stamps,
+            borders,
+            &mut stack,
+        )?;
         self.tables.pending.reserve(stack.len() / 2)?;
-        link_pairs(&mut self.tables, &stack);
+        link_pairs(&mut self.tables, &stack, &parcel.stamps);
         Ok(())
     }
 }
@@ -65,6 +74,7 @@ fn put_words(
     alloc: Global,
     tables: &mut Tables,
     words: &[Word],
+    stamps: &mut Carried,
     borders: &mut Borders,
     stack: &mut Vec<Word>,
 ) -> Result<(), MachineFault>
@@ -95,13 +105,55 @@ fn put_words(
     }
     let mut operands = Vec::new(alloc);
     for i in (0..words.len()).rev() {
-        unpack_word(tables, words[i], borders, stack, &mut operands)?;
+        let waited = stamps.take_waited(i);
+        unpack_word(tables, words[i], waited, borders, stack, &mut operands)?;
     }
     Ok(())
 }
 
-/// Makes what a word spells of the trees on top of the stack.
+/// Makes what a word spells of the trees on top of the stack. If it has waited with this stamp, it waits for a new name.
 fn unpack_word(
+    tables: &mut Tables,
+    word: Word,
+    waited: Option<u32>,
+    borders: &mut Borders,
+    stack: &mut Vec<Word>,
+    operands: &mut Vec<u32>,
+) -> Result<(), MachineFault>
+    requires few { length tables.old.names.entries < 2 ^ 32 }
+    requires symbols { length tables.old.heaps.items < GIVEN }
+    requires stack { length stack.old.items < 2 ^ 32 }
+    requires words { AllByRecursion (λ w. w.tag < IDLE) stack.old.items }
+    requires next { IsNext (arities_of tables.old.heaps.items) (length stack.old.items) word }
+    requires separate { IsSeparate (arities_of tables.old.heaps.items)
+        (stack.old.items ++ map end_word borders.old.ends) (side_in tables.old borders.old).places }
+    ensures spells { OnOk result ((rest : Side) (ts : List AnyWord)
+        → Spells (arities_of tables.old.heaps.items) (side_in tables.old borders.old) rest
+        (reverse stack.old.items) ts
+        → Spells (arities_of tables.old.heaps.items) (side_in tables.new borders.new) rest
+        (reverse stack.new.items) (word ∷ ts)) }
+    ensures worth { OnOk result ((c : ℕ)
+        → worth c borders.new ≡ worth c borders.old + spells_cut c (word ∷ [])) }
+    ensures kept { AreKept (arities_of tables.old.heaps.items)
+        (stack.old.items ++ map end_word borders.old.ends)
+        (stack.new.items ++ map end_word borders.new.ends)
+        (side_in tables.old borders.old).places (side_in tables.new borders.new).places }
+    ensures words { AllByRecursion (λ w. w.tag < IDLE) stack.new.items }
+    ensures len { length stack.new.items ≤ length stack.old.items + 1 }
+    ensures few { length tables.new.names.entries < 2 ^ 32 }
+    ensures arities { arities_of tables.new.heaps.items ≡ arities_of tables.old.heaps.items }
+    ensures grow { OnOk result (TablesGrow tables.old tables.new) }
+    ensures limit { result ≡ Err MachineFault.Limit → HasFullTable tables.new }
+    ensures same { (tables.new.pending ≡ tables.old.pending)
+        × (tables.new.registers ≡ tables.old.registers) × (tables.new.spare ≡ tables.old.spare) }
+{
+    put_word(tables, word, borders, stack, operands)?;
+    set_apart(&mut tables.names, &mut tables.stamps, waited, stack);
+    Ok(())
+}
+
+/// Makes what a word spells of the trees on top of the stack.
+fn put_word(
     tables: &mut Tables,
     word: Word,
     borders: &mut Borders,
@@ -142,6 +194,36 @@ fn unpack_word(
     } else {
         unpack_agent(&mut tables.heaps, word, stack, operands)
     }
+}
+
+/// Lets the word on top of a stack wait for a new name, which is on top then, if it has waited with this stamp. Where there is no
+/// number or no memory for a name, all stays as it is, and stamps are lost.
+fn set_apart(names: &mut Names, stamps: &mut Stamps, waited: Option<u32>, stack: &mut Vec<Word>)
+    requires few { length names.old.entries < 2 ^ 32 }
+    requires words { AllByRecursion (λ w. w.tag < IDLE) stack.old.items }
+    ensures apart { SetsApart
+        names.old.entries names.new.entries stack.old.items stack.new.items }
+    ensures words { AllByRecursion (λ w. w.tag < IDLE) stack.new.items }
+    ensures few { length names.new.entries < 2 ^ 32 }
+{
+    let Some(stamp) = waited else {
+        return;
+    };
+    if names.len() >= MAX_ENTRIES {
+        stamps.lose();
+        return;
+    }
+    if names.reserve(1).is_err() {
+        stamps.lose();
+        return;
+    }
+    let Some(word) = stack.pop() else {
+        return;
+    };
+    let name = names.open();
+    names.put(name, word);
+    stack.push_reserved(Word::name(name));
+    stamps.mark(name, stamp);
 }
 
 /// The name of a cut: that of its border, if the other end is here, or a new one.
@@ -271,7 +353,7 @@ fn push(stack: &mut Vec<Word>, word: Word) -> Result<(), AllocError>
 
 /// Links the words of a stack two by two, those at the bottom first: the upper one of two is the
 /// left side.
-fn link_pairs(tables: &mut Tables, stack: &[Word])
+fn link_pairs(tables: &mut Tables, stack: &[Word], stamps: &Carried)
     requires entered { AreEntered stack.now tables.old.names.entries }
     requires room { length tables.old.pending.items + length stack.now / 2
         ≤ tables.old.pending.capacity }
@@ -291,6 +373,10 @@ fn link_pairs(tables: &mut Tables, stack: &[Word])
             left: stack[2 * place + 1],
             right: stack[2 * place],
         };
+        tables.stamps.link_carried(stamps, place);
+        tables
+            .stamps
+            .stamp(&tables.names, &tables.pending, equation);
         link(&mut tables.names, &mut tables.pending, equation);
     }
 }

@@ -34,12 +34,13 @@ pub(crate) struct Laid {
     pub(crate) links: Vec<Link>,
 }
 
-/// The machine that begins with a configuration. It is given the names that occur once. Takes time and memory in
-/// proportion to the nodes.
+/// The machine that begins with a configuration. It is given the names that occur once. It knows in which rounds the pairs would
+/// fire that it runs, if it is to know that. Takes time and memory in proportion to the nodes.
 pub fn begin(
     alloc: Global,
     program: &Program,
     system: &WideSystem,
+    knows_rounds: bool,
 ) -> Result<(Machine, First), AllocError>
     requires arities { program.now.arities ≡ map (λ s. s.arity) system.now.rules.symbols }
     ensures begins { IfOk result (λ begun. BeginsWith system.now program.now
@@ -63,7 +64,7 @@ pub fn begin(
         interface,
         links,
     } = lay_out(alloc, program, system)?;
-    let machine = builder.finish(alloc, program, &links, &interface)?;
+    let machine = builder.finish(alloc, program, &links, &interface, knows_rounds)?;
     Ok((machine, first))
 }
 

@@ -47,7 +47,7 @@ pub fn begin_with_pairs(
     let constants = system.rules().symbols().len();
     let made = constants + first.given.len() + first.names as usize;
     let (links, pairs) = agents_first(alloc, &links, constants, made)?;
-    let machine = builder.finish(alloc, program, &links, &interface)?;
+    let machine = builder.finish(alloc, program, &links, &interface, false)?;
     Ok((machine, first, pairs))
 }
 

@@ -5,6 +5,7 @@ ghost use Rattle.std.specs.Fmt.{decimal};
 ghost use Rattle.ic_progress.specs.Figures.{StandsIn};
 
 use crate::line::a_second;
+use ic_by_rounds::Summary;
 use ic_in_place::{End, Outcome};
 use ic_rules::{Rule, RuleSet};
 use ic_term::Symbols;
@@ -87,6 +88,13 @@ fn rest_of_lines(
     if let Some(rounds) = rounds {
         write!(out, ", rounds {rounds}")?;
     }
+    if let Some(pairs) = &outcome.by_round {
+        let (span, whole, tenth, greatest) = span_of(pairs);
+        write!(
+            out,
+            ", span {span}, pairs at once {whole}.{tenth} on average, {greatest} at most"
+        )?;
+    }
     write!(out, ", threads {threads}, shared {shared}")?;
     let (seconds, thousandths) = (millis / 1_000, millis % 1_000);
     write!(out, ", seconds {seconds}.{thousandths:03}")?;
@@ -98,6 +106,13 @@ fn rest_of_lines(
     put_rules(&outcome.rules, &outcome.by_rule, &mut out)?;
     out.push('\n')?;
     Ok(out)
+}
+
+/// The span of rounds that would fire so many pairs each, how many they would on average, the tenths of it, and how many at most.
+fn span_of(pairs: &[u64]) -> (u64, u64, u64, u64) {
+    let summary = Summary::of_pairs(pairs);
+    let (whole, tenth) = summary.average();
+    (summary.rounds, whole, tenth, summary.greatest)
 }
 
 /// Appends how often each rule fired that did.
@@ -203,6 +218,13 @@ fn rest_of_object(
     write!(out, ",\"nodes\":{nodes},\"equations\":{left}")?;
     if let Some(rounds) = rounds {
         write!(out, ",\"rounds\":{rounds}")?;
+    }
+    if let Some(pairs) = &outcome.by_round {
+        let (span, whole, tenth, greatest) = span_of(pairs);
+        write!(
+            out,
+            ",\"span\":{span},\"average\":{whole}.{tenth},\"greatest\":{greatest}"
+        )?;
     }
     write!(out, ",\"threads\":{threads},\"shared\":{shared}")?;
     write!(out, ",\"milliseconds\":{millis},\"interactions_a_second\":")?;

@@ -165,12 +165,19 @@ impl Gate for Progress<'_> {
 #[derive(Drop)]
 pub struct Watching<'a> {
     line: Line<'a>,
+    wants_rounds: bool,
 }
 
 impl<'a> Watching<'a> {
     pub fn new(rt: &'a HostRuntime) -> Watching<'a> {
+        Watching::of_rounds(rt, false)
+    }
+
+    /// The same, where it may be that it is to be known in which rounds pairs would fire.
+    pub fn of_rounds(rt: &'a HostRuntime, wants_rounds: bool) -> Watching<'a> {
         Watching {
             line: Line::new(rt),
+            wants_rounds,
         }
     }
 
@@ -187,6 +194,10 @@ impl Watch for Watching<'_> {
             nodes,
         };
         self.line.show(interactions, &seen);
+    }
+
+    fn wants_rounds(&self) -> bool {
+        self.wants_rounds
     }
 }
 

@@ -2,6 +2,7 @@
 
 use crate::input::{self, Input, is_rich_path, open_text, tell_of_plain};
 use crate::keeping::{self, KeptIn};
+use crate::profiling::Profiled;
 use crate::reducing::{self, Wanted, of_memory, threads_for};
 use crate::texts::UsedFiles;
 use crate::{
@@ -10,9 +11,9 @@ use crate::{
 };
 use ic_args::table::{
     CHECKED, DISK, DRAWN, EVERY, EXPLAIN, FIGURES, FILE, GROUP, HELPERS, KEEP, LIMITS, LINES,
-    MAX_ROUNDS, MAX_STEPS, NAMES, NODES, ONE_FILE, OVERWRITE, PARTIAL, PLAIN, QUIET, REDUCERS,
-    REPORT, RESUME, RICH, ROUNDS, RULES_TOO, RUNNERS, SCRIPT, SCRIPTS, SECONDS, STATS, STEPS,
-    STRICT, SUMS, TABLE, TAKEN, TOPIC, TRACED, TURNS, WAIT, WORKERS, Word, table,
+    MAX_ROUNDS, MAX_STEPS, NAMES, NODES, ONE_FILE, OVERWRITE, PARTIAL, PLAIN, PROFILE, QUIET,
+    REDUCERS, REPORT, RESUME, RICH, ROUNDS, RULES_TOO, RUNNERS, SCRIPT, SCRIPTS, SECONDS, SPAN,
+    STATS, STEPS, STRICT, SUMS, TABLE, TAKEN, TOPIC, TRACED, TURNS, WAIT, WORKERS, Word, table,
 };
 use ic_args::{
     FiguresFormat, Place, ReportFormat, TextLimits, TraceFormat, Values, WordsFault, help_of,
@@ -254,6 +255,10 @@ fn reduce_in_place<T: Threads + Sync>(
     let bounds = bounds_of(doing.values);
     let threads = threads_for(doing.threads, said_of(doing.values), bounds.steps);
     let wanted = wanted_of(doing.values, Policy::of(threads));
+    let profiled = Profiled {
+        has_span: doing.values.flag(&SPAN),
+        path: doing.values.text(&PROFILE),
+    };
     let limits = limits_of(doing.values);
     let mut input = open_input(doing, told)?;
     let reduced = reducing::reduce(
@@ -262,6 +267,7 @@ fn reduce_in_place<T: Threads + Sync>(
         limits,
         bounds,
         wanted,
+        profiled,
         &mut input,
         doing.notes,
         told,
@@ -325,7 +331,7 @@ fn wanted_of(values: &Values, policy: Policy) -> Wanted {
     Wanted {
         asked: asked_of(values.flag(&QUIET), values.flag(&PARTIAL)),
         has_rules: values.flag(&RULES_TOO),
-        figures: if values.flag(&STATS) {
+        figures: if values.flag(&STATS) || values.flag(&SPAN) {
             Some(format)
         } else {
             None

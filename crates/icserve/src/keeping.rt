@@ -314,6 +314,7 @@ fn tell(
         nodes,
         left,
         shared,
+        by_round: None,
         stuck,
         circle,
     };

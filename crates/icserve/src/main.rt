@@ -14,6 +14,7 @@ mod keeping;
 mod kept;
 mod looking;
 mod others;
+mod profiling;
 mod reducing;
 mod renewing;
 mod scripts;

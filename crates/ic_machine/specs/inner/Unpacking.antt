@@ -4,7 +4,7 @@ use Rattle.std.specs.List.{AllByRecursion}
 use Rattle.ic_arena.specs.declared.word.Word.{Word}
 use Rattle.ic_arena.specs.declared.word.TheConstants.{IDLE, NAME}
 use Rattle.ic_arena.specs.Word.{agent_word, count, name_word}
-use Rattle.ic_arena.specs.Piece.{Piece, agent_of, idle, room, uses}
+use Rattle.ic_arena.specs.Piece.{Piece, agent_of, idle, room, uses, waits}
 use Rattle.ic_arena.specs.Tables.{Blocks, Replaced, blocks_pieces, names_pieces}
 use Rattle.ic_machine.specs.declared.equation.Equation.{Equation}
 use Rattle.ic_machine.specs.declared.tables.Tables.{Tables}
@@ -65,6 +65,14 @@ pub data UnpacksName (e : CutEnd) : (entries entries' : List Word) → (ends end
   begun : (es fs : List Word) (bs cs : List CutEnd) → IsPermutation cs (e ∷ bs)
       → Replaced [] (idle (end_word e) ∷ []) (names_pieces 0 es) (names_pieces 0 fs)
       → UnpacksName e es fs bs cs
+
+-- The word on top of a stack waits for a new name, which is on top now. Or all is as it was.
+pub data SetsApart : (entries entries' stack stack' : List Word) → Type 0 where
+  stays : (es ss : List Word) → SetsApart es es ss ss
+  apart : (es fs ss : List Word) (name word : Word) → name.tag ≡ NAME
+      → IsPermutation (names_pieces 0 fs) (waits name word ∷ names_pieces 0 es)
+      → length fs ≡ max (length es) (length (names_pieces 0 fs))
+      → SetsApart es fs (ss ++ word ∷ []) (ss ++ name ∷ [])
 
 -- how many trees a spelled word takes after it: the arguments of an agent
 abbrev pub taken_by : List ℕ → ℕ → ℕ

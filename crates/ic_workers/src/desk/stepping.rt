@@ -68,7 +68,7 @@ fn run_compiled<R: Threads + Sync, C: Clock + Sync, V: Watch>(
     what_parts_come_to_is_reached();
     a_run_that_goes_on_stops_by_the_bounds_of_all();
     systems_are_sound(system);
-    let (machine, first) = begin(alloc, program, system)?;
+    let (machine, first) = begin(alloc, program, system, watch.wants_rounds())?;
     let gauge = Gauge::new(alloc, system, &first, numbers, bounds.nodes)?;
     let mut machine = run_parts(
         rt,
@@ -87,12 +87,14 @@ fn run_compiled<R: Threads + Sync, C: Clock + Sync, V: Watch>(
     let end = run_in_pieces(&mut machine, program, &gauge, left, watch);
     sum_by_rule(&mut by_rule, numbers, machine.fired());
     let nodes = gauge.nodes(&machine);
+    let by_round = machine.take_rounds(alloc);
     Ok(Stopped {
         machine,
         given: first.given,
         by_rule,
         nodes,
         shared,
+        by_round,
         end,
     })
 }

@@ -126,7 +126,7 @@ returns-clause-made c =
           (map (linked l) c.deref-2.result.now ++ (names_pieces 0 ns' ++ others))
           (names_pieces 0 ns'' ++ (map equated_of more ++ others))) c.deref-3.ensures.value
           (c.link_each.ensures.bare q others more is'))));
-      places = λ kind rest. as_used t (record { names = c.link_each.new.names; heaps = c.make_agents.new.heaps; pending = c.link_each.new.pending; registers = c.make_agents.new.registers; spare = t.spare }) ns' hs' (c.link_each.ensures.names ∙ c.open_names.ensures.places)
+      places = λ kind rest. as_used t (record { names = c.link_each.new.names; heaps = c.make_agents.new.heaps; pending = c.link_each.new.pending; registers = c.make_agents.new.registers; spare = t.spare; stamps = c.link_each.new.stamps }) ns' hs' (c.link_each.ensures.names ∙ c.open_names.ensures.places)
           c.make_agents.ensures.places kind
           ∙ ap (max (size_at kind t))
           (sym (subst (λ (l : List Word). in_use kind (pieces_made p l opened.names makes.places

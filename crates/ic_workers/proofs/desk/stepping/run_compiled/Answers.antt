@@ -1,9 +1,10 @@
 use Rattle.std.proofs.Common.{rules, ◌≡◌, ◌+◌, ◌<◌, ◌≤◌, ◌^◌, ℕ, List, length, ap, sym, ◌∙◌, arith, refl, subst}
 use Rattle.ic_rules.specs.RuleSet.{Rules}
 use Rattle.ic_rules.specs.System.{SystemParts}
+use Rattle.ic_machine.specs.Net.{Net}
 use Rattle.ic_machine.specs.Plan.{Plans}
 use Rattle.ic_machine.specs.Runs.{IsStart}
-use Rattle.ic_in_place.specs.Stopping.{IsBegun}
+use Rattle.ic_in_place.specs.Stopping.{HasCome, IsBegun}
 use Rattle.ic_in_place.specs.Summing.{IsSummed}
 use Rattle.ic_workers.proofs.Begun.{first_part}
 use Rattle.ic_workers.proofs.Desks.{kept_begun, new_ends}
@@ -58,7 +59,8 @@ returns g c =
     let low : run.new.machine.interactions < 2 ^ 64 = search rules in
     let below : all.interactions ≤ c.args.bounds.steps = c.in_ok-machine-2.ensures.within in
     let left : c.args.bounds.steps ≡ all.interactions + c.saturating_sub-left.result = omega (arith, below, c.interactions-shared.ensures, c.saturating_sub-left.ensures) in
-    come_so s c.args.bounds numbers p first.given.items begins.plan begins.operands all run.new.machine run.result
+    subst (λ (m : Net). HasCome s c.args.bounds first.given.items by_rule m run.result) (sym c.take_rounds-by_round.ensures)
+    (come_so s c.args.bounds numbers p first.given.items begins.plan begins.operands all run.new.machine run.result
     sound arities compiled kept.0 kept.1 now.0 run.ensures.ran (omega (arith, run.ensures.ends.within, left)) run.ensures.pairs
     (c.a_run_that_goes_on_stops_by_the_bounds_of_all.ensures c.args.bounds c.saturating_sub-left.result p all run.new.machine run.result left run.ensures.ends)
-    by_rule summed c.requires.numbers low
+    by_rule summed c.requires.numbers low)

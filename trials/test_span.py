@@ -1,0 +1,147 @@
+"""The options `reduce --span` and `--profile`: they tell of a reduction in any order, by any number of threads, what `trace` tells of
+rounds, over drawn systems and those of bench/. So many are drawn as the variable SYSTEMS says, of 400 if it isn't set."""
+
+import json
+import os
+import re
+import sys
+
+import draws
+import nets
+from program import IN_MEMORY, TOP, Trial, run
+
+sys.path.insert(0, str(TOP / "bench"))
+
+from systems import FIBONACCI, numeral, rows  # noqa: E402
+
+SYSTEMS = int(os.environ.get("SYSTEMS") or 400)
+
+WORKERS = (1, 2, 4)
+
+# How many interactions the model makes of a system before it counts as one that never ends.
+PATIENT = 20_000
+
+SORT = (TOP / "examples/sort.ic").read_text()
+
+# What the figures tell of rounds.
+SPAN = re.compile(rb", span (\d+), pairs at once (\d+\.\d) on average, (\d+) at most, threads ")
+
+
+def traced(text):
+    """How many pairs each round fires, up to the last one that fires some."""
+    ran = run("trace", "--rounds", 10**7, "--nodes", 10**9, given=text)
+    pairs = [int(it.split(b"\t")[1]) for it in ran.out.splitlines()[1:]]
+    while pairs and not pairs[-1]:
+        pairs.pop()
+    return pairs
+
+
+def summed(pairs):
+    """Span, average and the greatest number, as the object of figures has them."""
+    return {"span": len(pairs), "average": sum(pairs) * 10 // max(1, len(pairs)) / 10, "greatest": max(pairs, default=0)}
+
+
+class Profiles(Trial):
+    rooms = IN_MEMORY
+    seconds = 60
+
+    def profile(self, text, *words):
+        """What stands in the file after a reduction, and the run with its figures."""
+        path = self.room / "profile.tsv"
+        ran = run("reduce", "--span", "--format", "json", "--quiet-answer", "--profile", path, *words, given=text)
+        lines = path.read_text().splitlines()
+        self.equals(ran.command, "the head of the table", "round\tpairs", lines[0])
+        told = [tuple(map(int, it.split("\t"))) for it in lines[1:]]
+        self.equals(ran.command, "the numbers of rounds", [*range(1, len(told) + 1)], [it for it, _ in told])
+        return ran, [it for _, it in told]
+
+    def are_rounds(self, text, workers=WORKERS):
+        """A text whose reduction ends has one profile by any number of threads, which is that of its rounds."""
+        pairs = traced(text)
+        for count in workers:
+            ran, told = self.profile(text, "--workers", count)
+            self.equals(ran.command, "status", 0, ran.status)
+            self.equals(ran.command, "pairs of each round", pairs, told)
+            figures = json.loads(ran.err.partition(b"\n")[0])
+            self.equals(ran.command, "its figures", summed(pairs), {it: figures[it] for it in ("span", "average", "greatest")})
+            self.equals(ran.command, "interactions", sum(pairs), figures["interactions"])
+        return sum(pairs)
+
+    def test_drawn_systems(self):
+        drawn = self.draws()
+        for _ in range(max(1, SYSTEMS // 4)):
+            rules, config = draws.system(drawn, drawn.choice([1, 2, 3, 5]), drawn.choice([2, 3, 4]))
+            if nets.Reduction(rules, config, drawn).run(PATIENT // 10):
+                self.are_rounds(draws.system_text(rules, config))
+
+    def test_drawn_systems_that_threads_share(self):
+        drawn, shared = self.draws("shared"), 0
+        for _ in range(max(1, SYSTEMS // 4)):
+            symbols = draws.symbols(drawn, drawn.randint(2, 6), drawn.choice([1, 2, 3]))
+            rules = draws.rules(drawn, symbols, drawn.randint(1, 12), size=drawn.choice([1, 2, 3]))
+            config = draws.configuration(drawn, rules, drawn.randrange(5), drawn.randint(1, 200), drawn.choice([2, 4, 6]), active=1.0)
+            if nets.Reduction(rules, config, drawn).run(PATIENT):
+                shared += self.are_rounds(draws.system_text(rules, config)) > 200
+        if SYSTEMS >= 100:
+            self.equals("what was drawn", "whether some systems are shared", True, shared > 0)
+
+    def test_systems_of_bench(self):
+        for row in rows(0.1):
+            if row.is_in_place():
+                self.are_rounds(row.given)
+
+    def test_a_tree_that_is_handed_on_with_what_waits_in_it(self):
+        for number in (14, 17, 20):
+            self.are_rounds(f"{FIBONACCI}<r,s|F(r)={numeral(number)},F(s)={numeral(number - 3)}>", (2, 3, 4, 7))
+
+    def test_a_reduction_that_is_cut(self):
+        """What has fired by then is told of the rounds in which it would fire."""
+        pairs = traced(SORT)
+        for steps in range(sum(pairs) + 1):
+            ran, told = self.profile(SORT, "--steps", steps)
+            self.equals(ran.command, "status", 5 if steps < sum(pairs) else 0, ran.status)
+            self.equals(ran.command, "pairs in all", steps, sum(told))
+            self.equals(ran.command, "whether no round has more", True, all(it <= most for it, most in zip(told, pairs)))
+
+    def test_figures_in_lines(self):
+        pairs = traced(SORT)
+        for words in (["--span"], ["--span", "--stats"], ["--stats", "--profile", self.room / "table"]):
+            ran = run("reduce", *words, given=SORT)
+            told = SPAN.search(ran.err)
+            wanted = summed(pairs)
+            self.equals(ran.command, "what is told of rounds", [*map(str, wanted.values())], [it.decode() for it in told.groups()] if told else ran.err)
+        self.equals("reduce --stats", "what is told of rounds", None, SPAN.search(run("reduce", "--stats", given=SORT).err))
+
+    def test_a_picture(self):
+        """It has the bars of the picture of a trace, and no line."""
+        path = self.room / "profile.svg"
+        self.runs("reduce", "--quiet-answer", "--profile", path, given=SORT)
+        picture, trace = path.read_text(), run("trace", "--format", "svg", given=SORT).out.decode()
+        bars = re.compile(r"<rect width='0.9' x='(\d+)' height='(\d+)'/>")
+        self.equals(str(path), "bars", bars.findall(trace), bars.findall(picture))
+        self.equals(str(path), "title", re.findall(r"middle'>(.*?)</text>", trace), re.findall(r"middle'>(.*?)</text>", picture))
+        self.equals(str(path), "whether there is a line", (False, False), ("polyline" in picture, "nodes" in picture))
+
+    def test_a_text_without_interactions(self):
+        for text in ("{}<|>", "{}<x|x=y,y=Z>", "{A><B}<|A=A>"):
+            ran, told = self.profile(text)
+            self.equals(ran.command, "status and pairs", (0, []), (ran.status, told))
+
+    def test_what_the_file_held_is_gone(self):
+        path = self.room / "profile.tsv"
+        path.write_text("x" * 10_000)
+        self.profile(SORT)
+
+    def test_a_file_that_cannot_be_written(self):
+        """The answer is printed all the same, and the line after that of the failure tells why."""
+        answer = run("reduce", given=SORT).out
+        for path, why in ((self.room, "is a folder"), (self.room / "no/such/folder", "no such file")):
+            ran = run("reduce", "--profile", path, given=SORT)
+            self.equals(ran.command, "status and answer", (4, answer), (ran.status, ran.out))
+            first, _, rest = ran.err.partition(b"\n")
+            self.equals(ran.command, "what is told", (b"icserve: write", True), (first, str(path).encode() in rest and rest.count(b"\n") == 1))
+
+    def test_a_refused_text_writes_no_file(self):
+        path = self.room / "profile.tsv"
+        ran = run("reduce", "--profile", path, given="{A><A}<|A=>")
+        self.equals(ran.command, "status, and whether there is a file", (1, False), (ran.status, path.exists()))
