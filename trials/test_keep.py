@@ -15,10 +15,12 @@ import sys
 import time
 
 import draws
+import model
 import nets
 from program import PROGRAM, TOP, grows_to, heeds_signals, ran_with, run, said_of
 from shim import noted, recording, shimmed, was_refused
 from stops import Stops
+from test_in_place import DOUBLES
 
 sys.path.insert(0, str(TOP / "bench"))
 
@@ -53,10 +55,13 @@ def seen(place, content):
     head = f"file {place}: {'open' if gate else 'closed'}, number {number}, size {size}"
     if len(content) < HEAD + size:
         return f"{head}, cut short", number if gate else -1
-    if content[HEAD : HEAD + 8] != b"ICKEPT01":
+    state, rounds = content[HEAD:], ""
+    if state[:8] == b"ICROUND1":
+        state, rounds = state[16:], f", rounds {struct.unpack('>Q', state[8:16])[0]}"
+    if state[:8] != b"ICKEPT01":
         return f"{head}, no state", number if gate else -1
-    _, interactions, ended, rules, words, millis = struct.unpack(">6Q", content[HEAD + 8 : HEAD + 56])
-    fields = f"interactions {interactions}, words {words}, rules {rules}, milliseconds {millis}"
+    _, interactions, ended, rules, words, millis = struct.unpack(">6Q", state[8:56])
+    fields = f"interactions {interactions}, words {words}, rules {rules}, milliseconds {millis}{rounds}"
     return f"{head}, {'ended' if ended else 'not ended'}, {fields}", number if gate else -1
 
 
@@ -134,9 +139,9 @@ class Keep(Stops):
         for path in (self.file, self.second):
             path.unlink(missing_ok=True)
 
-    def whole(self, text):
-        """The answer and the figures of a reduction by one thread that isn't kept."""
-        ran = run("reduce", "--workers", 1, *FIGURES, given=text)
+    def whole(self, text, *words):
+        """The answer and the figures of a reduction by one thread that isn't kept, in any order or by rounds."""
+        ran = run("reduce", *(words or ("--workers", 1)), *FIGURES, given=text)
         self.equals(ran.command, "status", 0, ran.status)
         return ran.out, figures(ran)
 
@@ -144,12 +149,12 @@ class Keep(Stops):
         """Fails unless a run that is kept has come to the same end."""
         self.equals(ran.command, f"status; it said {ran.err}", 0, ran.status)
         self.agrees(ran.command, "standard output", whole[0], ran.out)
-        for name in ("end", "stuck", "circle", "interactions", "by_rule"):
-            self.equals(ran.command, name, whole[1][name], figures(ran)[name])
+        for name in ("end", "stuck", "circle", "interactions", "by_rule", "rounds"):
+            self.equals(ran.command, name, whole[1].get(name), figures(ran).get(name))
 
-    def kept(self):
+    def kept(self, bound="--steps"):
         """How many interactions the files hold, or nothing where they are refused."""
-        ran = run("reduce", "--resume", self.file, "--steps", 0, "--quiet-answer", *FIGURES)
+        ran = run("reduce", "--resume", self.file, bound, 0, "--quiet-answer", *FIGURES)
         if ran.status == 3:
             return None
         self.equals(ran.command, f"status; it said {ran.err}", True, ran.status in (0, 5))
@@ -219,7 +224,8 @@ class Keep(Stops):
                 run("reduce", *words, "--steps", most, "--quiet-answer", given=given)
                 words, given = ["--workers", threads, "--resume", self.file], b""
             kept = [run("reduce", *words, *FIGURES, given=given), run("reduce", "--resume", self.file, *FIGURES)]
-            for ran in kept if threads == 1 else []:
+            # Circles come in another order as a net is read again.
+            for ran in kept if threads == 1 and not told["circle"] else []:
                 self.equals(ran.command, "the line", whole.out, ran.out)
             for ran in (whole, run("reduce", "--workers", 3, *FIGURES, given=text), *kept):
                 self.equals(ran.command, "the pair that is told", first_pair(ran.out), figures(ran)["stuck"])
@@ -242,6 +248,57 @@ class Keep(Stops):
         self.equals(ran.command, "what is held", {"held": f"file {newest}"}, told[2])
         self.equals(ran.command, "what the files hold", before, self.contents())
         return told[newest - 1]
+
+    def test_rounds_that_are_kept_are_those_of_one_that_is_not_stopped(self):
+        """Cut anywhere, it tells the same figures and holds the same net as one that makes as many rounds at once."""
+        draw = self.draws()
+        texts = [ackermann(2), fibonacci(9), "{A(B(x))><B(x)} <r|A(r)=B(C),D=E(z)>", "{} <a,b|a=b>", "{A(x)><B(x)} <r|x=A(r),x=B(C)>", "{} <|x=A(x)>"]
+        texts += [draws.system_text(*draws.system(draw, draw.choice([2, 3, 5]), draw.choice([2, 3, 4]))) for _ in range(40)]
+        for text in texts:
+            self.clear()
+            words, given = ["--keep", self.file], text
+            for most in sorted(draw.choice([0, 1, 2, 3, 5, 9, 20]) for _ in range(4)):
+                ran = run("reduce", *words, "--rounds", most, *FIGURES, given=given)
+                whole = run("reduce", "--rounds", most, *FIGURES, given=text)
+                self.equals(ran.command, "status", whole.status, ran.status)
+                for name in ("end", "interactions", "by_rule", "rounds"):
+                    self.equals(ran.command, f"{name} of {text}", figures(whole)[name], figures(ran)[name])
+                for it in (whole, ran) if figures(whole)["stuck"] else []:
+                    self.equals(it.command, f"the pair that is told of {text}", first_pair(it.out), figures(it)["stuck"])
+                rules = model.read_system(text.encode())[0]
+                self.equals(ran.command, f"the net of {text}", nets.form_of(rules, whole.out), nets.form_of(rules, ran.out))
+                words, given = ["--resume", self.file], b""
+
+    def test_a_reduction_by_rounds_goes_on_alone(self):
+        for text in (ackermann(3), fibonacci(20)):
+            self.clear()
+            whole = self.whole(text, "--rounds", 2**62)
+            ran = run("reduce", "--keep", self.file, "--rounds", 99, *FIGURES, given=text)
+            self.equals(ran.command, "status, and rounds", (5, 99), (ran.status, figures(ran)["rounds"]))
+            self.equals(self.file, "rounds that are told", 99, self.inspected()["rounds"])
+            for _ in range(3):
+                self.agree(run("reduce", "--resume", self.file, *FIGURES), whole)
+
+    def test_within_a_round_nothing_is_kept(self):
+        run("reduce", "--keep", self.file, "--rounds", 3, given=DOUBLES)
+        before = self.contents()
+        for words in (["--resume", self.file], ["--resume", self.file, "--rounds", 99]):
+            ran = run("reduce", *words, "--nodes", 1_000)
+            whole = run("reduce", "--rounds", 99, "--nodes", 1_000, given=DOUBLES)
+            self.equals(ran.command, "status, and what is told", (whole.status, whole.err.splitlines()[0]), (ran.status, ran.err.splitlines()[0]))
+            self.equals(ran.command, "what is told of the keep", True, b"the last keep stands: `icserve reduce --resume " in ran.after)
+            self.equals(self.file, "what is kept", 3, figures(run("reduce", "--resume", self.file, "--rounds", 0, "--quiet-answer", *FIGURES))["rounds"])
+        self.equals(self.file, "whether the files hold what they did", before, self.contents())
+
+    def test_each_order_goes_on_as_it_began(self):
+        text = ackermann(2)
+        for first, then, line in (("--steps", "--rounds", "its reduction doesn't go by rounds: resume it without `--rounds`"), ("--rounds", "--steps", "its reduction goes by rounds: `--rounds N` bounds it, `--steps` doesn't")):
+            self.clear()
+            run("reduce", "--keep", self.file, first, 9, given=text)
+            before = self.contents()
+            ran = run("reduce", "--resume", self.file, then, 20)
+            self.equals(ran.command, "how it is refused", (3, b"", f"icserve: other order\n{self.file}: {line}\n".encode()), (ran.status, ran.out, ran.err))
+            self.equals(self.file, "whether the files hold what they did", before, self.contents())
 
     def test_inspect_tells_what_is_kept(self):
         total = self.whole(ackermann(2))[1]["interactions"]
@@ -952,14 +1009,17 @@ class Keep(Stops):
     def test_200_kills_at_drawn_moments_of_a_long_reduction_by_four_threads(self):
         self.is_killed(fibonacci(int(os.environ.get("SHARED_SIZE") or 31)), 200, 4)
 
+    def test_100_kills_at_drawn_moments_of_a_long_reduction_by_rounds(self):
+        self.is_killed(fibonacci(int(os.environ.get("ROUNDS_SIZE") or 29)), 100, None)
+
     def is_killed(self, text, most, threads):
         """Kills a reduction so often. Each comes as a run goes on, and the next run resumes what is kept then. Where the reduction
-        ends, it has the answer and the counts of one that isn't stopped, and is begun anew."""
+        ends, it has the answer and the counts of one that isn't stopped, and is begun anew. Without threads it goes by rounds."""
         draw = self.draws()
         began = time.monotonic()
-        whole = self.whole(text)
+        bound, several = ("--steps", ["--workers", threads]) if threads else ("--rounds", ["--rounds", 2**62])
+        whole = self.whole(text) if threads else self.whole(text, *several)
         took = time.monotonic() - began
-        several = ["--workers", threads]
         words, given, held, kills, went_on, ends = [*several, "--keep", self.file], text.encode(), None, 0, 0, 0
         # About half of the runs keep something before they are stopped, however busy the machine is.
         longest = took * 0.1
@@ -971,7 +1031,7 @@ class Keep(Stops):
                 words, given, held, ends = [*several, "--keep", self.file], text.encode(), None, ends + 1
                 continue
             kills += 1
-            now = self.kept()
+            now = self.kept(bound)
             # Nothing is kept yet: it is begun anew.
             if held is None and now is None:
                 longest *= 1.1

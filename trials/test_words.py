@@ -16,7 +16,7 @@ RANGE = re.compile(r"from (\d+) to (\d+)")
 
 # What of `reduce` may not stand beside what.
 APART = {
-    "--rounds": ["--steps", "--keep", "--resume", "--seconds", "--workers", "--span", "--profile"],
+    "--rounds": ["--steps", "--workers", "--span", "--profile"],
     "--keep": ["--resume", "--limits", "--span", "--profile"],
     "--resume": ["--limits", "--rich", "--plain", "--span", "--profile", "FILE"],
 }

@@ -97,9 +97,16 @@ def reduce(
     return answer_of(run("reduce", "--partial", "--stats", "--format", "json", *words, given=text))
 
 
-def resume(keep: PathText, steps: Optional[int] = None, nodes: Optional[int] = None, workers: Optional[int] = None) -> Answer:
+def resume(
+    keep: PathText,
+    steps: Optional[int] = None,
+    nodes: Optional[int] = None,
+    workers: Optional[int] = None,
+    rounds: Optional[int] = None,
+) -> Answer:
     """Goes on with a reduction that is kept."""
-    return answer_of(run("reduce", "--partial", "--stats", "--format", "json", *options(resume=keep, steps=steps, nodes=nodes, workers=workers)))
+    words = options(resume=keep, steps=steps, nodes=nodes, workers=workers, rounds=rounds)
+    return answer_of(run("reduce", "--partial", "--stats", "--format", "json", *words))
 
 
 def settle(text: str) -> str:

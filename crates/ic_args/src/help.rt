@@ -60,6 +60,7 @@ The commands:
 A stop at any moment loses what was done since the last keep. Keeps come after about as many
 seconds as --seconds says, and 4194304 interactions at least, so later on a slow machine. The end
 is kept too, and --resume prints the answer again. --steps counts the interactions of all runs.
+One with --rounds N is kept between two rounds. It is resumed by rounds, at most N with --rounds N.
 F and F.2 belong together: move or copy both, while neither is open, and give the name F.
 After a stop in the very first keep mostly nothing is kept: give the same --keep again.
 If one of them is lost or damaged, --resume with --from-one-file goes on with what the other one
@@ -133,9 +134,10 @@ pub(crate) fn after(word: Word) -> &'static str {
 
 const REDUCE: &str = "\
 A round fires all active pairs at once, and then removes names that only join two terms.
-Beside --rounds, with which one thread reduces, no --steps, --workers, --keep or --resume may
-stand, and beside --keep and --resume no --limits. No --span or --profile may stand beside these
-three: they tell, in any order and by any number of threads, what rounds would do.
+--rounds takes no --steps or --workers: one thread makes rounds, and keeps between two of them.
+--keep and --resume take no --limits. None of the three takes --span or --profile: these tell, in
+any order and by any number of threads, what rounds would do. Of a reduction that is cut they count
+only the pairs that have fired.
 Without --workers and --steps as many threads reduce as the process may use processors, at most 64.
 Several may leave the same equations in another order and with other names each time.
 Compare the seconds of --stats with those of --workers 1 to see whether several were faster.

@@ -337,7 +337,7 @@ pub const PROFILE: Text = Text {
     shown: "TO",
     needed: false,
     apart: &[],
-    help: "Write how many pairs each round would fire, as a picture in a file *.svg",
+    help: "Write to TO how many pairs each round would fire, as a picture if it ends in .svg",
 };
 
 /// Where a reduction is kept that begins.
@@ -382,7 +382,7 @@ pub const ROUNDS: Number = Number {
     least: 0,
     most: MAX_ROUNDS,
     default: None,
-    apart: &["steps", "keep", "resume", "seconds", "workers", "span", "profile"],
+    apart: &["steps", "workers", "span", "profile"],
     help: "Make rounds, and at most so many, from 0 to 4611686018427387904",
 };
 

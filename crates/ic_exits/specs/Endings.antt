@@ -40,7 +40,7 @@ use Rattle.ic_inspect.specs.declared.fault.InspectFault.TheVariants as inspect
 use Rattle.ic_args.specs.declared.words.WordsFault.TheVariants as words
 use Rattle.ic_exits.specs.declared.failure.Failure.{Failure}
 use Rattle.ic_exits.specs.declared.failure.Failure.TheVariants.{Words, Stream, Disk, Locked, Create, NotEmpty, Open, Serve, Attend, Dump, Inspect, Jobs, Batch, Faults, NotDone}
-use Rattle.ic_exits.specs.declared.failure.Failure.TheVariants.{Overgrown, TableFull, OutOfMemory, Kept, Halted}
+use Rattle.ic_exits.specs.declared.failure.Failure.TheVariants.{Overgrown, TableFull, OutOfMemory, Kept, OtherOrder, Halted}
 use Rattle.ic_exits.specs.declared.failure.Reached.{Reached}
 use Rattle.ic_in_place.specs.declared.running.End.{End}
 use Rattle.ic_in_place.specs.declared.running.End.TheVariants as end
@@ -125,6 +125,7 @@ status_of (Overgrown reached nodes) = 1
 status_of (TableFull reached) = 1
 status_of (OutOfMemory reached) = 4
 status_of (Kept fault) = kept_status fault
+status_of (OtherOrder by_rounds) = 3
 
 -- why a round isn't made
 abbrev pub round_word : RoundFault → List ℕ
@@ -259,6 +260,7 @@ failure_line (Overgrown reached nodes) = told (codes "overgrown")
 failure_line (TableFull reached) = told (codes "table full")
 failure_line (OutOfMemory reached) = told (codes "memory")
 failure_line (Kept fault) = told (kept_word fault)
+failure_line (OtherOrder by_rounds) = told (codes "other order")
 
 -- the line that tells a stuck pair
 abbrev pub stuck_line : List ℕ → List ℕ

@@ -97,6 +97,7 @@ impl Failure {
             Failure::Attend(ScriptsFault::Open(fault)) => open_line(alloc, *fault, path),
             Failure::Batch(fault) => batch_line(alloc, *fault, path),
             Failure::Kept(fault) => kept_line(alloc, *fault, path),
+            Failure::OtherOrder(by_rounds) => order_line(alloc, *by_rounds, path),
             Failure::Overgrown(reached, nodes) => overgrown_line(alloc, *reached, *nodes),
             Failure::TableFull(reached) | Failure::OutOfMemory(reached) => {
                 reached_line(alloc, *reached)
@@ -195,6 +196,16 @@ after a stop in the first keep, give the same `--keep` again\n"
         _ => String::new(alloc),
     };
     Ok(line.into_bytes())
+}
+
+/// The line that says of the file of this path in which order its reduction goes on.
+fn order_line(alloc: Global, by_rounds: bool, path: &[u8]) -> Result<Vec<u8>, AllocError> {
+    let words = if by_rounds {
+        "its reduction goes by rounds: `--rounds N` bounds it, `--steps` doesn't"
+    } else {
+        "its reduction doesn't go by rounds: resume it without `--rounds`"
+    };
+    said_of(alloc, path, words)
 }
 
 /// The line that says of the file of this path that no reduction goes on with it, since its second file is missing.

@@ -84,6 +84,8 @@ pub enum Failure {
     OutOfMemory(Reached),
     /// A reduction isn't kept in two files, or doesn't go on from there.
     Kept(KeepingFault),
+    /// One is kept that goes by rounds, or one that doesn't, and the other is asked for.
+    OtherOrder(bool),
 }
 
 impl Failure {
@@ -112,6 +114,7 @@ impl Failure {
             Failure::Overgrown(_, _) | Failure::TableFull(_) => 1,
             Failure::OutOfMemory(_) => 4,
             Failure::Kept(fault) => kept_status(*fault),
+            Failure::OtherOrder(_) => 3,
         }
     }
 
@@ -142,6 +145,7 @@ impl Failure {
             Failure::TableFull(_) => told(alloc, b"table full"),
             Failure::OutOfMemory(_) => told(alloc, b"memory"),
             Failure::Kept(fault) => told(alloc, kept_word(*fault)),
+            Failure::OtherOrder(_) => told(alloc, b"other order"),
         }
     }
 }

@@ -23,9 +23,11 @@ pub mod RoundsMade
 pub mod Rounding
 pub mod RoundedNet
 pub mod Still
+pub mod MadeRounds
 pub mod LineByRounds
 pub mod RoundsNeeded
 pub mod RoundsTold
 pub mod RoundsEnough
+pub mod RoundedSystem
 pub mod Amounts
 pub mod Fired

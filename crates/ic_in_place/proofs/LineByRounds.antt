@@ -1,5 +1,5 @@
 -- Lemmas: a line of a text that was reduced by rounds is the net after as many rounds.
-use Rattle.std.proofs.Common.{◌≡◌, ◌⊎◌, ℕ, zero, suc, ◌≤◌, ◌≢◌, List, [], ◌∷◌, true, false, cond, length, refl, sym, ap, ◌∙◌, arith, inl, inr, subst as transport}
+use Rattle.std.proofs.Common.{◌≡◌, ◌⊎◌, ℕ, zero, suc, ◌≤◌, ◌≢◌, List, [], ◌∷◌, true, false, cond, Option, length, refl, sym, ap, ◌∙◌, arith, inl, inr, subst as transport}
 use Rattle.ic_term.specs.Configuration.{Configuration}
 use Rattle.ic_rules.specs.Rule.{Rule}
 use Rattle.ic_settle.specs.NameSteps.{NameStep, NameSteps, no_step, one_more}
@@ -18,7 +18,9 @@ use Rattle.ic_machine.specs.Net.{pieces}
 use Rattle.ic_meaning.specs.Nets.{net_of}
 use Rattle.ic_in_place.specs.Reducing.{IsPutTogether}
 use Rattle.ic_in_place.specs.Reductions.{is_written, line_reached}
+use Rattle.ic_rules.specs.System.{SystemParts}
 use Rattle.ic_in_place.specs.Rounds.{EndsByRounds, stands_still}
+use Rattle.ic_in_place.proofs.MadeRounds.{Made, put_together_then}
 use Rattle.ic_in_place.specs.declared.rounded.Rounded.{Rounded}
 use Rattle.ic_in_place.specs.declared.running.End.{End}
 use Rattle.ic_in_place.specs.declared.running.End.TheVariants.{Quiet, Steps}
@@ -77,6 +79,48 @@ pub a_round_is_settled : (rs : List Rule) (k : ℕ) (c f : Configuration) → 1 
 a_round_is_settled rs zero c f some step = absurd (omega (arith, some))
 a_round_is_settled rs (suc k) c f some step = settled_ends (fired rs (iterate rs k c)) f step
 
+-- ---- of a system
+
+nothing_fired : (fired : List ℕ) (n : ℕ) → n ≡ length fired → n ≡ 0 → fired ≡ []
+nothing_fired [] n same none = refl
+nothing_fired (i ∷ is) n same none = absurd (omega (arith, same, none))
+
+module _ (laws : LineLaws) (together : (c d : Configuration) → HasNames c → IsPutTogether c → NameStep c d → ⊥) (s : SystemParts) (most rounds : ℕ) (answer : Configuration) (end : End)
+    (interactions : ℕ) (by_rule : List ℕ) (told : Option ℕ) (e : Made s most rounds answer end interactions by_rule told) (either : (end ≡ Quiet) ⊎ (end ≡ Steps)) where
+  abbrev c : Configuration
+  c = s.config
+
+  abbrev rs : List Rule
+  rs = s.rules.rules
+
+  taken_net : OneNet answer (iterate rs e.taken c)
+  taken_net =
+      let n = e.rounded.come.held.numbers in
+      let m = e.machine in
+      laws.through answer (net_of n m.interface (pieces m)) (iterate rs e.taken c) (laws.other_way (net_of n m.interface (pieces m)) answer e.net) (e.rounded.net either)
+
+  as_taken : rounds ≡ e.taken → OneNet answer (iterate rs rounds c)
+  as_taken same = transport (λ (k : ℕ). OneNet answer (iterate rs k c)) (sym same) taken_net
+
+  as_it_stood : interactions ≡ 0 → rounds ≡ 0 → OneNet answer (iterate rs rounds c)
+  as_it_stood none zero_rounds =
+      let fired = nothing_fired e.reached.fired interactions e.reached.counted none in
+      let r : Reaches rs c answer [] = transport (Reaches rs c answer) fired e.reached.reached in
+      transport (λ (k : ℕ). OneNet answer (iterate rs k c)) (sym zero_rounds) (laws.other_way c answer (reached_by_none laws rs c answer e.rounded.come.sound.names r))
+
+  pub net : OneNet answer (iterate rs rounds c)
+  net = by (still_or_not end interactions told)
+    where
+      by : (stands_still end interactions told ≡ true)
+          ⊎ (stands_still end interactions told ≡ false) → OneNet answer (iterate rs rounds c)
+      by (inl is) = as_it_stood (still_none end interactions told is) (e.count.none is)
+      by (inr isnt) = as_taken (e.count.all isnt)
+
+  pub same : 1 ≤ rounds → SameButNext answer (iterate rs rounds c)
+  same one =
+      settled_nets answer (iterate rs rounds c) net (λ f step. together answer f net.names (put_together_then s most rounds answer end interactions by_rule told e either) step)
+      (λ f step. a_round_is_settled rs rounds c f one step)
+
 -- ---- of a text
 
 asked_for_cut : (asked : Asked) → asked ≢ Nothing → (line : List ℕ) → cond (is_written asked Steps) line [] ≡ line
@@ -84,24 +128,8 @@ asked_for_cut Answer some line = refl
 asked_for_cut AlsoPart some line = refl
 asked_for_cut Nothing some line = absurd (some refl)
 
-written_at : (asked : Asked) (end : End) → asked ≢ Nothing → (end ≡ Quiet) ⊎ (end ≡ Steps) → is_written asked end ≡ true
-written_at Answer end some (inl quiet) = ap (is_written Answer) quiet
-written_at Answer end some (inr steps) = ap (is_written Answer) steps
-written_at AlsoPart end some either = refl
-written_at Nothing end some either = absurd (some refl)
-
-nothing_fired : (fired : List ℕ) (n : ℕ) → n ≡ length fired → n ≡ 0 → fired ≡ []
-nothing_fired [] n same none = refl
-nothing_fired (i ∷ is) n same none = absurd (omega (arith, same, none))
-
-module _ (laws : LineLaws) (together : (c d : Configuration) → HasNames c → IsPutTogether c → NameStep c d → ⊥) (limits : Limits) (most : ℕ) (asked : Asked) (input line : List ℕ) (reached : Rounded)
+module _ (limits : Limits) (most : ℕ) (asked : Asked) (input line : List ℕ) (reached : Rounded)
     (e : EndsByRounds limits most asked input reached line) (either : (reached.outcome.end ≡ Quiet) ⊎ (reached.outcome.end ≡ Steps)) (some : asked ≢ Nothing) where
-  abbrev c : Configuration
-  c = e.system.config
-
-  abbrev rs : List Rule
-  rs = e.system.rules.rules
-
   abbrev answer : Configuration
   answer = e.ends.answer
 
@@ -111,31 +139,3 @@ module _ (laws : LineLaws) (together : (c d : Configuration) → HasNames c → 
       by : (reached.outcome.end ≡ Quiet) ⊎ (reached.outcome.end ≡ Steps) → line ≡ line_of e.system.rules.symbols (renumbered answer)
       by (inl quiet) = e.ends.prints ∙ (ap (λ (x : End). line_reached asked x e.system.rules.symbols answer) quiet ∙ asked_for asked some _)
       by (inr steps) = e.ends.prints ∙ (ap (λ (x : End). line_reached asked x e.system.rules.symbols answer) steps ∙ asked_for_cut asked some _)
-
-  taken_net : OneNet answer (iterate rs e.taken c)
-  taken_net =
-      let n = e.rounded.come.held.numbers in
-      let m = e.machine in
-      laws.through answer (net_of n m.interface (pieces m)) (iterate rs e.taken c) (laws.other_way (net_of n m.interface (pieces m)) answer e.net) (e.rounded.net either)
-
-  as_taken : reached.rounds ≡ e.taken → OneNet answer (iterate rs reached.rounds c)
-  as_taken same = transport (λ (k : ℕ). OneNet answer (iterate rs k c)) (sym same) taken_net
-
-  as_it_stood : reached.outcome.interactions ≡ 0 → reached.rounds ≡ 0 → OneNet answer (iterate rs reached.rounds c)
-  as_it_stood none zero_rounds =
-      let fired = nothing_fired e.ends.reached.fired reached.outcome.interactions e.ends.reached.counted none in
-      let r : Reaches rs c answer [] = transport (Reaches rs c answer) fired e.ends.reached.reached in
-      transport (λ (k : ℕ). OneNet answer (iterate rs k c)) (sym zero_rounds) (laws.other_way c answer (reached_by_none laws rs c answer e.ends.names r))
-
-  pub net : OneNet answer (iterate rs reached.rounds c)
-  net = by (still_or_not reached.outcome.end reached.outcome.interactions reached.outcome.name_steps)
-    where
-      by : (stands_still reached.outcome.end reached.outcome.interactions reached.outcome.name_steps ≡ true)
-          ⊎ (stands_still reached.outcome.end reached.outcome.interactions reached.outcome.name_steps ≡ false) → OneNet answer (iterate rs reached.rounds c)
-      by (inl is) = as_it_stood (still_none reached.outcome.end reached.outcome.interactions reached.outcome.name_steps is) (e.count.none is)
-      by (inr isnt) = as_taken (e.count.all isnt)
-
-  pub same : 1 ≤ reached.rounds → SameButNext answer (iterate rs reached.rounds c)
-  same one =
-      settled_nets answer (iterate rs reached.rounds c) net (λ f step. together answer f net.names (e.ends.together (written_at asked reached.outcome.end some either)) step)
-      (λ f step. a_round_is_settled rs reached.rounds c f one step)

@@ -1,4 +1,4 @@
--- Lemmas: rounds of a text are made as long as a step is possible.
+-- Lemmas: rounds of a system are made as long as a step is possible.
 use Rattle.std.proofs.Common.{◌≡◌, ◌⊎◌, inl, inr, ℕ, ◌+◌, ◌^◌, ◌≤◌, ◌<◌, List, [], ◌∷◌, ◌++◌, Bool, true, false, Option, None, Some, length, sum_by, refl, sym, ap, ◌∙◌, arith, subst as transport}
 use Rattle.std.proofs.lemmas.List.Sums.{sum_by-cons}
 use Rattle.std.proofs.lemmas.List.Sorted.{length_permutation}
@@ -18,17 +18,16 @@ use Rattle.ic_confluence.specs.Kinds.{Kind, naming, firing, Chain}
 use Rattle.ic_confluence.specs.Sameness.{Same}
 use Rattle.ic_reaching.specs.OneNet.{OneNet, SameButNext}
 use Rattle.ic_reaching.specs.Reaching.{Reaches, rules_fired}
-use Rattle.ic_text.specs.declared.limits.Limits.{Limits}
+use Rattle.ic_rules.specs.System.{SystemParts}
 use Rattle.ic_machine.specs.Net.{pieces}
 use Rattle.ic_meaning.specs.Nets.{net_of}
 use Rattle.ic_in_place.specs.Counting.{AreNameSteps, TellsNameSteps, name_steps}
 use Rattle.ic_in_place.specs.Reducing.{CanInteract, EndsBy, IsPutTogether}
-use Rattle.ic_in_place.specs.Rounds.{EndsByRounds, stands_still}
-use Rattle.ic_in_place.specs.declared.rounded.Rounded.{Rounded}
+use Rattle.ic_in_place.specs.Rounds.{stands_still}
 use Rattle.ic_in_place.specs.declared.running.End.{End}
 use Rattle.ic_in_place.specs.declared.running.End.TheVariants.{Quiet, Steps, Nodes, Limit, Memory}
-use Rattle.ic_in_place.specs.declared.stream.Asked.{Asked}
 use Rattle.ic_in_place.proofs.LineByRounds.{a_round_is_settled, settled_nets}
+use Rattle.ic_in_place.proofs.MadeRounds.{Made}
 use Rattle.ic_in_place.proofs.RoundsNeeded.{later_rounds_are_needed, quiet_as}
 use Rattle.ic_in_place.proofs.Still.{none_still, quiet_still, still_or_not, still_quiet}
 
@@ -103,131 +102,129 @@ told_as : (o : Option ℕ) (P : Type 0) (v n : ℕ) → SomeIff o P n → o ≡ 
 told_as None P v n so is = absurd (cc is)
 told_as (Some x) P v n so is = let same : x ≡ n = so.1 in let inner : x ≡ v = cc in sym same ∙ inner
 
--- ---- of a text
+-- ---- of a system
 
-module _ (laws : EnoughLaws) (limits : Limits) (most : ℕ) (asked : Asked) (input line : List ℕ) (reached : Rounded) (e : EndsByRounds limits most asked input reached line) where
+module _ (laws : EnoughLaws) (s : SystemParts) (most rounds : ℕ) (answer : Configuration) (end : End) (interactions : ℕ) (by_rule : List ℕ) (told : Option ℕ)
+    (e : Made s most rounds answer end interactions by_rule told) where
   abbrev c : Configuration
-  c = e.system.config
+  c = s.config
 
   abbrev rs : Rules
-  rs = e.system.rules
-
-  abbrev answer : Configuration
-  answer = e.ends.answer
+  rs = s.rules
 
   -- whether the text stands still, by this end
   abbrev still_by : End → Bool
-  still_by end = stands_still end reached.outcome.interactions reached.outcome.name_steps
+  still_by at = stands_still at interactions told
 
-  stood : (still_by reached.outcome.end ≡ true) ⊎ (still_by reached.outcome.end ≡ false)
-  stood = still_or_not reached.outcome.end reached.outcome.interactions reached.outcome.name_steps
+  stood : (still_by end ≡ true) ⊎ (still_by end ≡ false)
+  stood = still_or_not end interactions told
 
-  made_all : 1 ≤ reached.rounds → reached.rounds ≡ e.taken
+  made_all : 1 ≤ rounds → rounds ≡ e.taken
   made_all one = by stood
     where
-      by : (still_by reached.outcome.end ≡ true) ⊎ (still_by reached.outcome.end ≡ false) → reached.rounds ≡ e.taken
+      by : (still_by end ≡ true) ⊎ (still_by end ≡ false) → rounds ≡ e.taken
       by (inl is) = let none = e.count.none is in absurd (omega (arith, none, one))
       by (inr isnt) = e.count.all isnt
 
-  pub within : reached.rounds ≤ most
+  pub within : rounds ≤ most
   within = by stood
     where
-      by : (still_by reached.outcome.end ≡ true) ⊎ (still_by reached.outcome.end ≡ false) → reached.rounds ≤ most
+      by : (still_by end ≡ true) ⊎ (still_by end ≡ false) → rounds ≤ most
       by (inl is) = let none = e.count.none is in omega (arith, none)
       by (inr isnt) = let all = e.count.all isnt in let low = e.rounded.ends.within in omega (arith, all, low)
 
-  pub later : (n : ℕ) → 1 ≤ n → n < reached.rounds → IsQuiet rs.rules (iterate rs.rules n c) → ⊥
+  pub later : (n : ℕ) → 1 ≤ n → n < rounds → IsQuiet rs.rules (iterate rs.rules n c) → ⊥
   later n one low quiet =
       let all = made_all (omega (arith, one, low)) in
       let many = e.rounded.ends.count in
       later_rounds_are_needed rs.rules e.rounded.come.rule_numbers e.rounded.ends.made c n e.rounded.rules e.rounded.ends.firing one (omega (arith, low, all, many)) quiet
 
-  ended_quiet : reached.outcome.end ≡ Quiet → IsQuiet rs.rules answer × IsPutTogether answer
-  ended_quiet at = transport (EndsBy rs.rules e.rounded.bounds answer reached.outcome.interactions) at e.ends.reached.ended
+  pub ended_quiet : end ≡ Quiet → IsQuiet rs.rules answer × IsPutTogether answer
+  ended_quiet at = transport (EndsBy rs.rules e.rounded.bounds answer interactions) at e.reached.ended
 
-  ended_more : reached.outcome.end ≡ Steps → (reached.outcome.interactions ≡ e.rounded.bounds.steps) × CanInteract rs.rules answer × IsPutTogether answer
-  ended_more at = transport (EndsBy rs.rules e.rounded.bounds answer reached.outcome.interactions) at e.ends.reached.ended
+  ended_more : end ≡ Steps → (interactions ≡ e.rounded.bounds.steps) × CanInteract rs.rules answer × IsPutTogether answer
+  ended_more at = transport (EndsBy rs.rules e.rounded.bounds answer interactions) at e.reached.ended
 
-  told_steps : reached.outcome.end ≡ Quiet → TellsNameSteps rs.rules c reached.outcome.interactions (length answer.equations) Quiet reached.outcome.name_steps
-  told_steps at = transport (λ (x : End). TellsNameSteps rs.rules c reached.outcome.interactions (length answer.equations) x reached.outcome.name_steps) at e.ends.name_steps
+  told_steps : end ≡ Quiet → TellsNameSteps rs.rules c interactions (length answer.equations) Quiet told
+  told_steps at = transport (λ (x : End). TellsNameSteps rs.rules c interactions (length answer.equations) x told) at e.name_steps
 
-  pub first : 1 ≤ reached.rounds → IsQuiet rs.rules c → ⊥
-  first one quiet = by reached.outcome.end refl
+  pub first : 1 ≤ rounds → IsQuiet rs.rules c → ⊥
+  first one quiet = by end refl
     where
-      fired : e.ends.reached.fired ≡ []
-      fired = quiet_reaches rs.rules c answer e.ends.reached.fired quiet e.ends.reached.reached
+      fired : e.reached.fired ≡ []
+      fired = quiet_reaches rs.rules c answer e.reached.fired quiet e.reached.reached
 
-      none : reached.outcome.interactions ≡ 0
-      none = e.ends.reached.counted ∙ ap (length {A = ℕ}) fired
+      none : interactions ≡ 0
+      none = e.reached.counted ∙ ap (length {A = ℕ}) fired
 
-      few : reached.outcome.end ≡ Quiet → length answer.equations ≤ 2147483648
+      few : end ≡ Quiet → length answer.equations ≤ 2147483648
       few at =
-          let same = laws.every_order rs c answer c e.ends.reached.fired [] e.ends.rule_set e.ends.over e.ends.names e.ends.reached.reached (ended_quiet at).0 refl quiet in
+          let same = laws.every_order rs c answer c e.reached.fired [] e.rounded.come.sound.rules e.rounded.come.sound.over e.rounded.come.sound.names e.reached.reached (ended_quiet at).0 refl quiet in
           let many = laws.equations answer c same.0 in
           let low : configuration_nodes c ≤ 2147483648 = e.rounded.come.sound.nodes in
           let pairs = pairs_within c.equations in
           omega (arith, many, low, pairs)
 
-      told_of : still_by reached.outcome.end ≡ true → ⊥
+      told_of : still_by end ≡ true → ⊥
       told_of still = let made = e.count.none still in omega (arith, made, one)
 
-      by : (end : End) → reached.outcome.end ≡ end → ⊥
+      by : (x : End) → end ≡ x → ⊥
       by Quiet at =
-          let so = laws.told rs c c reached.outcome.interactions (length answer.equations) reached.outcome.name_steps [] e.ends.rule_set e.ends.over e.ends.names (told_steps at) refl quiet in
+          let so = laws.told rs c c interactions (length answer.equations) told [] e.rounded.come.sound.rules e.rounded.come.sound.over e.rounded.come.sound.names (told_steps at) refl quiet in
           let low = few at in
-          let zero_steps = told_so reached.outcome.name_steps (0 + reached.outcome.interactions + length answer.equations < 2 ^ 64) 0 so (omega (arith, none, low)) in
-          told_of (ap still_by at ∙ quiet_still reached.outcome.interactions reached.outcome.name_steps none zero_steps)
+          let zero_steps = told_so told (0 + interactions + length answer.equations < 2 ^ 64) 0 so (omega (arith, none, low)) in
+          told_of (ap still_by at ∙ quiet_still interactions told none zero_steps)
       by Steps at =
           let can = (ended_more at).1 in
-          let next = laws.interaction rs c answer can.0 e.ends.reached.fired can.1 e.ends.rule_set e.ends.over e.ends.names e.ends.reached.reached can.2 in
-          no_last e.ends.reached.fired can.2.active.rule (quiet_reaches rs.rules c can.0 (e.ends.reached.fired ++ can.2.active.rule ∷ []) quiet next)
-      by Nodes at = told_of (ap still_by at ∙ none_still reached.outcome.interactions none)
-      by Limit at = told_of (ap still_by at ∙ none_still reached.outcome.interactions none)
-      by Memory at = told_of (ap still_by at ∙ none_still reached.outcome.interactions none)
+          let next = laws.interaction rs c answer can.0 e.reached.fired can.1 e.rounded.come.sound.rules e.rounded.come.sound.over e.rounded.come.sound.names e.reached.reached can.2 in
+          no_last e.reached.fired can.2.active.rule (quiet_reaches rs.rules c can.0 (e.reached.fired ++ can.2.active.rule ∷ []) quiet next)
+      by Nodes at = told_of (ap still_by at ∙ none_still interactions none)
+      by Limit at = told_of (ap still_by at ∙ none_still interactions none)
+      by Memory at = told_of (ap still_by at ∙ none_still interactions none)
 
-  net_after : (reached.outcome.end ≡ Quiet) ⊎ (reached.outcome.end ≡ Steps) → OneNet answer (iterate rs.rules e.taken c)
+  net_after : (end ≡ Quiet) ⊎ (end ≡ Steps) → OneNet answer (iterate rs.rules e.taken c)
   net_after either =
       let n = e.rounded.come.held.numbers in
       let m = e.machine in
       laws.through answer (net_of n m.interface (pieces m)) (iterate rs.rules e.taken c) (laws.other_way (net_of n m.interface (pieces m)) answer e.net) (e.rounded.net either)
 
   -- no step was possible at all
-  still : reached.outcome.end ≡ Quiet → reached.outcome.interactions ≡ 0 → reached.outcome.name_steps ≡ Some 0 → IsQuiet rs.rules c
+  still : end ≡ Quiet → interactions ≡ 0 → told ≡ Some 0 → IsQuiet rs.rules c
   still at none zero_steps =
-      let told = told_steps at in
-      let are : AreNameSteps rs.rules c told.0 = told.1 in
-      let zero_told = told_as reached.outcome.name_steps (told.0 + reached.outcome.interactions + length answer.equations < 2 ^ 64) 0 told.0 told.2 zero_steps in
-      let order = laws.every_order rs c answer are.end e.ends.reached.fired are.kinds e.ends.rule_set e.ends.over e.ends.names e.ends.reached.reached (ended_quiet at).0 are.chain are.quiet in
-      let many = length_permutation e.ends.reached.fired (rules_fired are.kinds) order.1 in
-      let counted = e.ends.reached.counted in
+      let are_told = told_steps at in
+      let are : AreNameSteps rs.rules c are_told.0 = are_told.1 in
+      let zero_told = told_as told (are_told.0 + interactions + length answer.equations < 2 ^ 64) 0 are_told.0 are_told.2 zero_steps in
+      let order = laws.every_order rs c answer are.end e.reached.fired are.kinds e.rounded.come.sound.rules e.rounded.come.sound.over e.rounded.come.sound.names e.reached.reached (ended_quiet at).0 are.chain are.quiet in
+      let many = length_permutation e.reached.fired (rules_fired are.kinds) order.1 in
+      let counted = e.reached.counted in
       let fired = none_in (rules_fired are.kinds) (omega (arith, many, counted, none)) in
       let kinds : are.kinds ≡ [] = no_kinds are.kinds (are.count ∙ zero_told) fired in
       let same : c ≡ are.end = transport (λ (ks : List Kind). Chain rs.rules ks c are.end) kinds are.chain in
       transport (IsQuiet rs.rules) (sym same) are.quiet
 
-  pub quiet : reached.outcome.end ≡ Quiet → 1 ≤ most → IsQuiet rs.rules (iterate rs.rules reached.rounds c)
+  pub quiet : end ≡ Quiet → 1 ≤ most → IsQuiet rs.rules (iterate rs.rules rounds c)
   quiet at some = by stood
     where
       named : HasNames answer
-      named = laws.names rs.rules c answer e.ends.reached.fired e.ends.reached.reached
+      named = laws.names rs.rules c answer e.reached.fired e.reached.reached
 
-      by : (still_by reached.outcome.end ≡ true) ⊎ (still_by reached.outcome.end ≡ false) → IsQuiet rs.rules (iterate rs.rules reached.rounds c)
+      by : (still_by end ≡ true) ⊎ (still_by end ≡ false) → IsQuiet rs.rules (iterate rs.rules rounds c)
       by (inl is) =
-          let none = still_quiet reached.outcome.interactions reached.outcome.name_steps (sym (ap still_by at) ∙ is) in
+          let none = still_quiet interactions told (sym (ap still_by at) ∙ is) in
           transport (λ (k : ℕ). IsQuiet rs.rules (iterate rs.rules k c)) (sym (e.count.none is)) (still at none.0 none.1)
       by (inr isnt) =
           let d : Configuration = iterate rs.rules e.taken c in
           let one : 1 ≤ e.taken = e.rounded.ends.some at some in
-          let end = ended_quiet at in
-          let same : SameButNext answer d = settled_nets answer d (net_after (inl at)) (λ f step. laws.together answer f named end.1 step) (λ f step. a_round_is_settled rs.rules e.taken c f one step) in
-          let over = laws.over rs c answer e.ends.reached.fired e.ends.rule_set e.ends.over e.ends.names e.ends.reached.reached in
+          let ended = ended_quiet at in
+          let same : SameButNext answer d = settled_nets answer d (net_after (inl at)) (λ f step. laws.together answer f named ended.1 step) (λ f step. a_round_is_settled rs.rules e.taken c f one step) in
+          let over = laws.over rs c answer e.reached.fired e.rounded.come.sound.rules e.rounded.come.sound.over e.rounded.come.sound.names e.reached.reached in
           transport (λ (k : ℕ). IsQuiet rs.rules (iterate rs.rules k c)) (sym (e.count.all isnt))
-          (quiet_as laws.alike rs answer d e.ends.rule_set over named same end.0)
+          (quiet_as laws.alike rs answer d e.rounded.come.sound.rules over named same ended.0)
 
-  pub steps : reached.outcome.end ≡ Steps → (reached.rounds ≡ most) × (IsQuiet rs.rules (iterate rs.rules most c) → ⊥)
-  steps at = (made ∙ all, λ quiet. no_interaction laws rs (iterate rs.rules e.taken c) answer e.ends.rule_set over (laws.other_way answer (iterate rs.rules e.taken c) net) (transport (λ (k : ℕ). IsQuiet rs.rules (iterate rs.rules k c)) (sym all) quiet) (ended_more at).1)
+  pub steps : end ≡ Steps → (rounds ≡ most) × (IsQuiet rs.rules (iterate rs.rules most c) → ⊥)
+  steps at = (made ∙ all, λ quiet. no_interaction laws rs (iterate rs.rules e.taken c) answer e.rounded.come.sound.rules over (laws.other_way answer (iterate rs.rules e.taken c) net) (transport (λ (k : ℕ). IsQuiet rs.rules (iterate rs.rules k c)) (sym all) quiet) (ended_more at).1)
     where
-      made : reached.rounds ≡ e.taken
+      made : rounds ≡ e.taken
       made = e.count.all (ap still_by at)
 
       all : e.taken ≡ most
@@ -237,4 +234,4 @@ module _ (laws : EnoughLaws) (limits : Limits) (most : ℕ) (asked : Asked) (inp
       net = net_after (inr at)
 
       over : IsTrue (is_over rs.symbols (iterate rs.rules e.taken c))
-      over = laws.over rs c (iterate rs.rules e.taken c) e.ends.reached.fired e.ends.rule_set e.ends.over e.ends.names (laws.net rs.rules c answer (iterate rs.rules e.taken c) e.ends.reached.fired e.ends.reached.reached net)
+      over = laws.over rs c (iterate rs.rules e.taken c) e.reached.fired e.rounded.come.sound.rules e.rounded.come.sound.over e.rounded.come.sound.names (laws.net rs.rules c answer (iterate rs.rules e.taken c) e.reached.fired e.reached.reached net)

@@ -152,7 +152,7 @@ at_most_one (f ∷ made) fire none =
     let all = sum_by-cons (length {A = ℕ}) f made in
     omega (arith, rest, all, none)
 
-pub many_told : (outcome : Outcome) (taken rounds : ℕ) (made : List (List ℕ)) (told : List RoundOver) → CountsRounds outcome taken rounds → taken ≡ length made
+pub many_told : (outcome : Outcome) (taken rounds : ℕ) (made : List (List ℕ)) (told : List RoundOver) → CountsRounds outcome.end outcome.interactions outcome.name_steps taken rounds → taken ≡ length made
     → length told ≡ length made → FireAfterFirst made → sum_by (λ o. o.pairs) told ≡ sum_by length made → sum_by length made ≤ outcome.interactions
     → (length told ≡ rounds) ⊎ ((rounds ≡ 0) × (length told ≤ 1) × (sum_by (λ o. o.pairs) told ≡ 0))
 many_told outcome taken rounds made told count all many fire summed few =

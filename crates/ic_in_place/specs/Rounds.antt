@@ -1,8 +1,11 @@
 -- Rounds of a machine, and of a text.
-use Rattle.std.specs.Prelude.{◌≡◌, ◌⊎◌, ℕ, ◌+◌, ◌≤◌, ◌==◌, Bool, true, false, ◌&&◌, List, [], ◌∷◌, ◌++◌, Option, None, Some, Ok, Err, length, map}
+use Rattle.std.specs.Prelude.{◌≡◌, ◌⊎◌, ℕ, ◌+◌, ◌<◌, ◌≤◌, ◌==◌, Bool, true, false, ◌&&◌, List, [], ◌∷◌, ◌++◌, Option, None, Some, Ok, Err, length, map}
 use Rattle.std.specs.Io.KnownBytes.{Appends}
 use Rattle.std.specs.List.{AllByRecursion, concat}
 use Rattle.ic_rules.specs.System.{SystemParts}
+use Rattle.ic_term.specs.Configuration.{Configuration}
+use Rattle.ic_reaching.specs.OneNet.{OneNet, SameButNext}
+use Rattle.ic_round.specs.Quiet.{IsQuiet}
 use Rattle.ic_round.specs.Rounds.{iterate}
 use Rattle.ic_text.specs.SystemText.{ReadsSystemWithin}
 use Rattle.ic_text.specs.declared.limits.Limits.{Limits}
@@ -16,6 +19,7 @@ use Rattle.ic_meaning.specs.Generations.{FireAsRounds}
 use Rattle.ic_meaning.specs.InPlace.{AreRounds}
 use Rattle.ic_meaning.specs.Plans.{rule_number}
 use Rattle.ic_in_place.specs.Holding.{IsNetOf}
+use Rattle.ic_in_place.specs.Reducing.{IsPutTogether, IsReached, Writes}
 use Rattle.ic_in_place.specs.Reductions.{EndsOf}
 use Rattle.ic_in_place.specs.Stopping.{HasCome, IsBegun}
 use Rattle.ic_in_place.specs.Told.{RoundOver, IsBetween}
@@ -24,7 +28,7 @@ use Rattle.ic_in_place.specs.declared.running.End.{End}
 use Rattle.ic_in_place.specs.declared.running.End.TheVariants.{Quiet, Steps, Nodes, Limit, Memory}
 use Rattle.ic_in_place.specs.declared.stream.Asked.{Asked}
 use Rattle.ic_in_place.specs.declared.rounded.Rounded.{Rounded}
-use Rattle.ic_in_place.specs.declared.stream.Outcome.{Outcome}
+use Rattle.ic_in_place.specs.declared.reducing.Reduced.{Reduced}
 
 -- Rounds are over, none or several, and this is the net then. In each of them pairs fired by these plans.
 pub data AreOver (p : Plans) (first : Net) (pairs : ℕ) : List (List ℕ) → Net → Type 0 where
@@ -68,6 +72,11 @@ pub record EndsAfter (p : Plans) (pairs most rounds : ℕ) (end : End) (first ne
   pub all : end ≡ Steps → rounds ≡ most
   pub more : end ≡ Steps → HasNext p new.pending
 
+-- Rounds end as if so many might be made: as many as may be, or at least one, where enough interactions are made by then.
+abbrev pub MayEnd : (rounds : ℕ) → (enough : Option ℕ) → (most interactions : ℕ) → Type 0
+MayEnd rounds enough most interactions = (most ≡ rounds)
+    ⊎ ((1 ≤ most) × (most ≤ rounds) × ((n : ℕ) × (enough ≡ Some n) × (n ≤ interactions)))
+
 -- A machine began with the configuration of a system, whose equations of two agents are pending first. So many rounds of it are
 -- over, at most as many as may be made, and each has fired as many pairs by each rule as the round does. If none has fired since,
 -- the machine holds the net of the configuration after these. What is counted by rule is what fired in these rounds, and since.
@@ -95,10 +104,10 @@ stands_still Limit n steps = n == 0
 stands_still Memory n steps = n == 0
 
 -- Of a text that stands still no round is told, although the pairs of one were taken.
-pub record CountsRounds (outcome : Outcome) (taken rounds : ℕ) : Type 0 where
-  pub none : stands_still outcome.end outcome.interactions outcome.name_steps ≡ true → rounds ≡ 0
-  pub all : stands_still outcome.end outcome.interactions outcome.name_steps ≡ false
-      → rounds ≡ taken
+pub record CountsRounds (end : End) (interactions : ℕ) (name_steps : Option ℕ) (taken rounds : ℕ)
+    : Type 0 where
+  pub none : stands_still end interactions name_steps ≡ true → rounds ≡ 0
+  pub all : stands_still end interactions name_steps ≡ false → rounds ≡ taken
 
 -- A text is read as a system with these limits, of which a machine made so many rounds. This is the line of the net then, and
 -- this tells of it.
@@ -112,7 +121,29 @@ pub record EndsByRounds (limits : Limits) (most : ℕ) (asked : Asked) (input : 
   pub rounded : HasRounded system most taken given reached.outcome.by_rule.items machine reached.outcome.end
   pub ends : EndsOf system rounded.bounds asked reached.outcome line
   pub net : IsNetOf rounded.come.held.numbers machine ends.answer
-  pub count : CountsRounds reached.outcome taken reached.rounds
+  pub count : CountsRounds reached.outcome.end reached.outcome.interactions
+      reached.outcome.name_steps taken reached.rounds
+
+-- So many rounds of a system were made, as many as may be at most, and no fewer end quiet. Where all that was made are rounds,
+-- this is the net after them; where one might be made, that is so but for where fresh names begin.
+pub record MakesRounds (s : SystemParts) (most rounds : ℕ) (end : End) (answer : Configuration) : Type 0 where
+  pub within : rounds ≤ most
+  pub some : end ≡ Steps → 1 ≤ most → 1 ≤ rounds
+  pub needed : (n : ℕ) → n < rounds → ¬ IsQuiet s.rules.rules (iterate s.rules.rules n s.config)
+  pub net : (end ≡ Quiet) ⊎ (end ≡ Steps) → OneNet answer (iterate s.rules.rules rounds s.config)
+  pub same : (end ≡ Quiet) ⊎ (end ≡ Steps) → 1 ≤ most
+      → SameButNext answer (iterate s.rules.rules rounds s.config)
+
+-- A system was reduced by so many rounds to what is told. As it ends at `Steps`, as many were made as may be, or enough
+-- interactions were.
+pub record IsRoundedTo (s : SystemParts) (most enough rounds : ℕ) (reduced : Reduced) : Type 0 where
+  pub bounds : Bounds
+  pub answer : Configuration
+  pub reached : IsReached s bounds answer reduced.end reduced.interactions reduced.by_rule.items
+  pub together : IsPutTogether answer
+  pub writes : Writes s.rules.symbols reduced.words.items reduced.terms reduced.equations answer
+  pub made : MakesRounds s most rounds reduced.end answer
+  pub all : reduced.end ≡ Steps → (rounds ≡ most) ⊎ (enough ≤ reduced.interactions)
 
 -- the answers of reducing by at most so many rounds
 abbrev pub ReducesByRounds : Limits → (most : ℕ) → Asked → Answering

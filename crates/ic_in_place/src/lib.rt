@@ -21,7 +21,7 @@ pub use circle::circle_text;
 pub use counting::{no_counts, sum_by_rule};
 pub use gauge::{Gauge, Look};
 pub use reducing::{Reduced, Stopped, read_stopped, reduce_in_place};
-pub use rounded::{Rounded, reduce_by_rounds, reduce_by_rounds_stream};
+pub use rounded::{Rounded, reduce_by_rounds, reduce_by_rounds_stream, round_in_place};
 pub use rounds::{NoRows, RoundBounds, Rows, run_by_rounds};
 pub use running::{Bounds, End, PIECE, Watch, names_until_sweep, run_in_pieces, sweep_if_due};
 pub use stream::{Asked, Outcome, is_written, reduce_in_place_stream, stopped_line};

@@ -1,16 +1,16 @@
 //! A text reduced by rounds, in place.
 
-ghost use Rattle.std.specs.Prelude.{◌≡◌, ◌≢◌, ◌⊎◌, IfErr, IfOk, OnOk, length};
+ghost use Rattle.std.specs.Prelude.{◌≡◌, ◌≢◌, ◌⊎◌, ℕ, Some, IfErr, IfOk, OnOk, length};
 ghost use Rattle.std.specs.Io.KnownBytes.{Keeps};
 ghost use Rattle.ic_machine.specs.Plan.{ArePlans};
 ghost use Rattle.ic_meaning.specs.Plans.{ArePlansOf};
 ghost use Rattle.ic_streams.specs.Streams.{FaultOf, IsAnswered, OfText, TakesAtWithin, TakesTextWithin};
-ghost use Rattle.ic_in_place.specs.Rounds.{AppendsLineOf, CountsRounds, EndsByRounds, HasRounded, ReducesByRounds, stands_still};
+ghost use Rattle.ic_in_place.specs.Rounds.{AppendsLineOf, CountsRounds, EndsByRounds, HasRounded, IsRoundedTo, MayEnd, ReducesByRounds, stands_still};
 ghost use Rattle.ic_in_place.specs.Stopping.{arities_of};
 
 use crate::counting::{no_counts, sum_by_rule};
 use crate::gauge::Gauge;
-use crate::reducing::{Stopped, systems_are_sound};
+use crate::reducing::{Reduced, Stopped, read_stopped, systems_are_sound};
 use crate::rounds::{NoRows, RoundBounds, Rows, run_by_rounds};
 use crate::running::{End, Watch};
 use crate::stream::{Asked, Outcome, stopped_line};
@@ -21,7 +21,7 @@ use ic_machine::laws::what_a_machine_holds;
 use ic_plans::{begin_with_pairs, compile};
 use ic_streams::{StreamFault, read_text_within, write_line};
 use ic_text::{Limits, find_wide_system};
-use std::alloc::Global;
+use std::alloc::{AllocError, Global};
 use std::io::{Read, Write};
 
 /// How a text was reduced by rounds.
@@ -96,18 +96,72 @@ pub fn reduce_by_rounds<V: Watch, S: Rows<W>, W: Write>(
             return Err(refused_within(alloc, limits, Kind::System, text, misread, told));
         }
     };
-    let (stopped, rounds) = round_system(alloc, &system, bounds, watch, rows, writer)?;
+    let (stopped, rounds) = round_system(alloc, &system, bounds, None, watch, rows, writer)?;
     let (line, outcome) = stopped_line(alloc, system, stopped, asked)?;
-    let rounds = rounds_made(&outcome, rounds);
+    let rounds = rounds_made(
+        outcome.end,
+        outcome.interactions,
+        outcome.name_steps,
+        rounds,
+    );
     Ok((line, Rounded { outcome, rounds }))
+}
+
+/// Makes rounds of a system, in place, until no step is possible, a bound or a limit is met, or enough interactions are made as
+/// one is over. What was reached then has its names numbered anew. Answers how many rounds are over, too.
+pub fn round_in_place<V: Watch>(
+    alloc: Global,
+    system: &WideSystem,
+    bounds: RoundBounds,
+    enough: u64,
+    watch: &V,
+) -> Result<(Reduced, u64), AllocError>
+    ensures { IfOk result
+        (λ made. IsRoundedTo system.now bounds.rounds enough made.1 made.0) }
+{
+    let mut none: Vec<u8> = Vec::new(alloc);
+    let mut rows = NoRows;
+    let enough = Some(enough);
+    match round_system(alloc, system, bounds, enough, watch, &mut rows, &mut none) {
+        Ok((stopped, taken)) => read_rounded(alloc, system, stopped, taken),
+        Err(_) => Err(AllocError),
+    }
+}
+
+/// What a machine holds that has made rounds, and how many were made where it has taken so many.
+fn read_rounded(
+    alloc: Global,
+    system: &WideSystem,
+    stopped: Stopped,
+    taken: u64,
+) -> Result<(Reduced, u64), AllocError>
+    ensures { (rounds enough most : ℕ)
+        → MayEnd rounds (Some enough) most stopped.machine.interactions
+        → HasRounded system.now most taken stopped.given.items stopped.by_rule.items
+        stopped.machine stopped.end
+        → IfOk result (λ made. IsRoundedTo system.now rounds enough made.1 made.0) }
+{
+    ic_reaching::laws::one_net_is_an_equivalence();
+    ic_reaching::laws::what_is_reached_is_one_net();
+    ic_reaching::laws::what_is_reached_goes_on();
+    ic_reaching::laws::where_names_begin_is_all_that_differs();
+    ic_reaching::laws::where_names_begin_is_no_matter();
+    ic_reaching::laws::what_is_reached_quiet_is_the_end_of_every_order();
+    ic_confluence::laws::same_is_an_equivalence();
+    ic_confluence::laws::same_nets_take_the_same_steps();
+    crate::laws::name_steps_are_those_of_every_order();
+    crate::laws::what_is_put_together_has_no_name_step();
+    let reduced = read_stopped(alloc, system, stopped)?;
+    let rounds = rounds_made(reduced.end, reduced.interactions, reduced.name_steps, taken);
+    Ok((reduced, rounds))
 }
 
 /// How many rounds were made, where so many generations were taken. Of a text in which no step is possible none is made, but the
 /// first generation was taken all the same. Nor is one told of where a bound or a limit came before any pair had fired.
-fn rounds_made(outcome: &Outcome, taken: u64) -> u64
-    ensures { CountsRounds outcome.now taken result }
+fn rounds_made(end: End, interactions: u64, name_steps: Option<u64>, taken: u64) -> u64
+    ensures { CountsRounds end interactions name_steps taken result }
 {
-    if stands_still(outcome.end, outcome.interactions, outcome.name_steps) {
+    if stands_still(end, interactions, name_steps) {
         0
     } else {
         taken
@@ -133,11 +187,14 @@ fn round_system<V: Watch, S: Rows<W>, W: Write>(
     alloc: Global,
     system: &WideSystem,
     bounds: RoundBounds,
+    enough: Option<u64>,
     watch: &V,
     rows: &mut S,
     writer: &mut W,
 ) -> Result<(Stopped, u64), StreamFault>
-    ensures made { IfOk result (λ made. (rounded : HasRounded system.now bounds.rounds made.1
+    ensures made { IfOk result (λ made. (most : ℕ)
+        × MayEnd bounds.rounds enough most made.0.machine.interactions
+        × (rounded : HasRounded system.now most made.1
         made.0.given.items made.0.by_rule.items made.0.machine made.0.end)
         × S.tells system.now rounded.come.rule_numbers rows.old rows.new
         (W.contents writer.old) (W.contents writer.new) rounded.ends.told) }
@@ -145,7 +202,7 @@ fn round_system<V: Watch, S: Rows<W>, W: Write>(
 {
     let (program, numbers) = compile(alloc, system.rules())?;
     round_compiled(
-        alloc, system, &program, &numbers, bounds, watch, rows, writer,
+        alloc, system, &program, &numbers, bounds, enough, watch, rows, writer,
     )
 }
 
@@ -156,6 +213,7 @@ fn round_compiled<V: Watch, S: Rows<W>, W: Write>(
     program: &Program,
     numbers: &[u32],
     bounds: RoundBounds,
+    enough: Option<u64>,
     watch: &V,
     rows: &mut S,
     writer: &mut W,
@@ -164,7 +222,9 @@ fn round_compiled<V: Watch, S: Rows<W>, W: Write>(
     requires sound { ArePlans program.now }
     requires numbers { length numbers.now ≡ length program.now.plans }
     requires plans { ArePlansOf system.now.rules numbers.now program.now }
-    ensures made { IfOk result (λ made. (rounded : HasRounded system.now bounds.rounds made.1
+    ensures made { IfOk result (λ made. (most : ℕ)
+        × MayEnd bounds.rounds enough most made.0.machine.interactions
+        × (rounded : HasRounded system.now most made.1
         made.0.given.items made.0.by_rule.items made.0.machine made.0.end)
         × S.tells system.now rounded.come.rule_numbers rows.old rows.new
         (W.contents writer.old) (W.contents writer.new) rounded.ends.told) }
@@ -183,6 +243,7 @@ fn round_compiled<V: Watch, S: Rows<W>, W: Write>(
         pairs,
         &gauge,
         bounds.rounds,
+        enough,
         watch,
         rows,
         writer,

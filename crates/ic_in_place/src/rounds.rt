@@ -1,6 +1,6 @@
 //! Rounds of a machine, in place: its pending pairs are taken in generations.
 
-ghost use Rattle.std.specs.Prelude.{◌≡◌, ◌≢◌, ℕ, ◌+◌, ◌<◌, ◌≤◌, List, [], ◌∷◌, ◌++◌, Option, IfErr, IfOk, IfSome, IfNone, OnOk, length};
+ghost use Rattle.std.specs.Prelude.{◌≡◌, ◌≢◌, ℕ, ◌+◌, ◌<◌, ◌≤◌, List, [], ◌∷◌, ◌++◌, Option, Some, IfErr, IfOk, IfSome, IfNone, OnOk, length, true};
 ghost use Rattle.std.specs.List.{AllByRecursion};
 ghost use Rattle.ic_machine.specs.declared.generation.Generation.{Generation as AnyGeneration};
 ghost use Rattle.ic_machine.specs.Generations.{Advances, IsWithin};
@@ -9,7 +9,7 @@ ghost use Rattle.ic_machine.specs.Plan.{Plans};
 ghost use Rattle.ic_machine.specs.Runs.{Ran};
 ghost use Rattle.ic_rules.specs.System.{SystemParts};
 ghost use Rattle.ic_streams.specs.declared.fault.StreamFault.{StreamFault as AnyFault};
-ghost use Rattle.ic_in_place.specs.Rounds.{EndsAfter};
+ghost use Rattle.ic_in_place.specs.Rounds.{EndsAfter, MayEnd};
 ghost use Rattle.ic_in_place.specs.Told.{RoundOver};
 
 use crate::gauge::{Gauge, Look};
@@ -112,14 +112,15 @@ struct Looks {
     due: u64,
 }
 
-/// Makes rounds of a machine until no pair can fire, or as many are made as may be. The first one takes so many pairs, which are
-/// pending first. Tells why it ended, and how many rounds are over.
+/// Makes rounds of a machine until no pair can fire, as many are made as may be, or enough interactions are made as one is over.
+/// The first one takes so many pairs, which are pending first. Tells why it ended, and how many rounds are over.
 pub fn run_by_rounds<V: Watch, S: Rows<W>, W: Write>(
     machine: &mut Machine,
     program: &Program,
     pairs: usize,
     gauge: &Gauge,
     rounds: u64,
+    enough: Option<u64>,
     watch: &V,
     rows: &mut S,
     writer: &mut W,
@@ -128,7 +129,8 @@ pub fn run_by_rounds<V: Watch, S: Rows<W>, W: Write>(
     requires none { machine.old.interactions ≡ 0 }
     requires within { pairs ≤ length machine.old.pending }
     ensures ended { IfOk result (λ ended.
-        (ends : EndsAfter program.now pairs rounds ended.1 ended.0 machine.old machine.new)
+        (most : ℕ) × MayEnd rounds enough most machine.new.interactions
+        × (ends : EndsAfter program.now pairs most ended.1 ended.0 machine.old machine.new)
         × ((s : SystemParts) (numbers : List ℕ) (first : S) (before : Option (List ℕ))
         → S.tells s numbers first rows.old before (W.contents writer.old) []
         → S.tells s numbers first rows.new before (W.contents writer.new) ends.told)) }
@@ -152,9 +154,22 @@ pub fn run_by_rounds<V: Watch, S: Rows<W>, W: Write>(
         if !machine.has_active(program) {
             return Ok((End::Quiet, round + 1));
         }
+        if is_enough(enough, after) {
+            return Ok((end_of_all(machine, program), round + 1));
+        }
         generation = machine.generation();
     }
     Ok((end_of_all(machine, program), rounds))
+}
+
+/// Whether so many interactions are enough.
+fn is_enough(enough: Option<u64>, interactions: u64) -> bool
+    ensures { result ≡ true → (n : ℕ) × (enough ≡ Some n) × (n ≤ interactions) }
+{
+    match enough {
+        Some(number) => number <= interactions,
+        None => false,
+    }
 }
 
 /// Whether a pair can fire, where no more rounds may be made.

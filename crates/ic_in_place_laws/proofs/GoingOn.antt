@@ -56,7 +56,7 @@ pub named_above : ((c d : Configuration) → Same c d → HasNames c → HasName
 named_above law c d named same = (
   law (raised same.more c) (raised same.others d) same.same (raised_names same.more c named),
   let next : (d.next + same.others) + 0 ≡ d.next + same.others = omega arith in
-  record { more = same.more; others = 0; same = transport (λ (n : ℕ). Same (raised same.more c) (record d { next = n })) (sym next) same.same },
+      record { more = same.more; others = 0; same = transport (λ (n : ℕ). Same (raised same.more c) (record d { next = n })) (sym next) same.same },
 )
 
 module _ (laws : RoundLaws) (rs : Rules) (n m : ℕ) (c d : Configuration) (set : IsRuleSet rs) (over : IsTrue (is_over rs.symbols c)) (named : HasNames c) where

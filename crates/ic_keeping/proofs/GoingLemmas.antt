@@ -1,14 +1,18 @@
 -- What was kept on the way of a reduction, and what a state leads to.
-use Rattle.std.proofs.Common.{◌≡◌, ◌≢◌, ◌⊎◌, inl, inr, ⊎_elim, ◌∙◌, ℕ, ◌<◌, ◌≤◌, Bool, true, List, Ok, Err, length, max, refl, sym, ap, subst, arith}
+use Rattle.std.proofs.Common.{◌≡◌, ◌≢◌, ◌⊎◌, inl, inr, ⊎_elim, ◌∙◌, ℕ, ◌<◌, ◌≤◌, Bool, true, List, Option, None, Some, Ok, Err, length, max, refl, sym, ap, subst, arith}
 use Rattle.std.specs.Prelude.{◌↔◌, IsNone}
 use Rattle.std.specs.List.{AllByRecursion}
 use Rattle.std.proofs.lemmas.Bool.{cases_lt}
 use Rattle.ic_disk.specs.declared.disk.Disk.{Ghosts}
 use Rattle.ic_in_place.specs.declared.running.Bounds.{Bounds}
 use Rattle.ic_in_place.specs.declared.running.End.{End}
-use Rattle.ic_in_place.specs.declared.running.End.TheVariants.{Quiet}
+use Rattle.ic_in_place.specs.declared.running.End.TheVariants.{Quiet, Steps}
 use Rattle.ic_in_place.specs.declared.stream.Asked.{Asked}
 use Rattle.ic_kept.specs.lemmas.CourseLaws.{kept_after}
+use Rattle.ic_term.specs.Configuration.{Configuration}
+use Rattle.ic_round.specs.Quiet.{IsQuiet}
+use Rattle.ic_round.specs.Rounds.{iterate}
+use Rattle.ic_reaching.specs.OneNet.{OneNet}
 use Rattle.ic_state.specs.declared.state.State.{State}
 use Rattle.ic_frames.specs.declared.faults.KeepFault.{KeepFault}
 use Rattle.ic_kept.specs.declared.keeper.Keeper.{Keeper}
@@ -22,7 +26,8 @@ use Rattle.ic_keeping.specs.declared.fault.KeepingFault.TheVariants.{Limit, Memo
 use Rattle.ic_keeping.specs.declared.going.Ended.{Ended}
 use Rattle.ic_keeping.specs.inner.Pieces.{ComesTogether, StopsAPiece}
 use Rattle.ic_keeping.specs.Life.{GoesOn, HasAsFar, HasRun, HasState, IsTold, StopsARun, StopsFrom}
-use Rattle.ic_keeping.specs.Way.{GoesFurther, IsAnswer, IsAsFar, IsFormFrom, IsKeptAfter, IsReachedFrom, IsStateOf}
+use Rattle.ic_keeping.specs.Way.{AreAlike, GoesFurther, IsAnswer, IsAnswerByRounds, IsAsFar, IsFormFrom, IsKeptAfter, IsReachedFrom, IsStateOf}
+use Rattle.ic_keeping.proofs.ByRounds.{alike_itself, alike_on}
 use Rattle.ic_keeping.proofs.Refusing.{of_two}
 use Rattle.ic_keeping.proofs.WayLemmas.{past_state}
 
@@ -43,19 +48,49 @@ leads_form one s first is_kept is bytes last same (goes_on x state next leads af
       after.new_is,
     )
 
--- what is told at an end is told of the state with its last piece
-pub run_is : (s : SystemParts) (bounds : Bounds) (asked : Asked) (k : Kept) (state : State) (e : End) (run : Ended) → run.state ≡ state → run.end ≡ e → IsAnswer s bounds e (kept_by state)
-    → IsTold s asked run → IsReachedFrom s k (kept_by state) → HasRun s bounds asked k run
-run_is s bounds asked k state e run same ends answer told onward = record {
-  answer = subst (λ (x : End). IsAnswer s bounds x (kept_by run.state)) (sym ends) (subst (λ (x : State). IsAnswer s bounds e (kept_by x)) (sym same) answer);
-  told = told;
-  onward = subst (λ (x : State). IsReachedFrom s k (kept_by x)) (sym same) onward;
-}
+-- What is told of an end, of the state with its last piece.
+pub record IsEndOf (s : SystemParts) (bounds : Bounds) (most : ℕ) (k : Kept) (rounds : Option ℕ) (e : End) (state : State) : Type 0 where
+  pub within : Bounds
+  pub bounded : k.rounds ≡ None → within ≡ bounds
+  pub answer : IsAnswer s within e (kept_by state)
+  pub onward : IsReachedFrom s k (kept_by state)
+  pub by_rounds : (made : ℕ) → k.rounds ≡ Some made → (n : ℕ) × (rounds ≡ Some n) × (n ≤ max most made)
+      × IsAnswerByRounds s most n e answer.answer
+  pub between : (made : ℕ) → k.rounds ≡ Some made → made < most → (e ≡ Quiet) ⊎ (e ≡ Steps) → state.rounds ≡ rounds
+
+has_run_so : (s : SystemParts) (bounds : Bounds) (most : ℕ) (asked : Asked) (k : Kept) (run : Ended) → IsTold s asked run → IsEndOf s bounds most k run.rounds run.end run.state
+    → HasRun s bounds most asked k run
+has_run_so s bounds most asked k run told is =
+    record { within = is.within; bounded = is.bounded; answer = is.answer; told = told; onward = is.onward; by_rounds = is.by_rounds; between = is.between }
+
+pub run_is : (s : SystemParts) (bounds : Bounds) (most : ℕ) (asked : Asked) (k : Kept) (state : State) (e : End) (run : Ended) → run.state ≡ state → run.end ≡ e
+    → IsTold s asked run → IsEndOf s bounds most k run.rounds e state → HasRun s bounds most asked k run
+run_is s bounds most asked k state e run same ends told is =
+    has_run_so s bounds most asked k run told
+    (subst (λ (x : End). IsEndOf s bounds most k run.rounds x run.state) (sym ends) (subst (λ (x : State). IsEndOf s bounds most k run.rounds e x) (sym same) is))
+
+-- how many rounds are told of an end
+pub end_by_rounds : (s : SystemParts) (most top : ℕ) (e : End) (answer : Configuration) (told over : Option ℕ) (n : ℕ) → over ≡ Some n → n ≤ top
+    → ((e ≡ Quiet) ⊎ (e ≡ Steps) → told ≡ over) → ((m : ℕ) → over ≡ Some m → (l : ℕ) × (told ≡ Some l) × (l ≤ m))
+    → ((e ≡ Quiet) ⊎ (e ≡ Steps) → OneNet answer (iterate s.rules.rules n s.config)) → ((m : ℕ) → m < n → IsQuiet s.rules.rules (iterate s.rules.rules m s.config) → ⊥) → (e ≡ Steps → most ≤ n)
+    → (l : ℕ) × (told ≡ Some l) × (l ≤ top) × IsAnswerByRounds s most l e answer
+end_by_rounds s most top e answer told over n is low between some net needed all =
+    let few = some n is in
+    let same : (e ≡ Quiet) ⊎ (e ≡ Steps) → n ≡ few.0 = λ either. let one : Some n ≡ Some few.0 = sym is ∙ sym (between either) ∙ few.1 in cc (one) in (
+      few.0,
+      few.1,
+      omega (arith, low, few.2),
+      record {
+        net = λ either. subst (λ (k : ℕ). OneNet answer (iterate s.rules.rules k s.config)) (same either) (net either);
+        needed = λ m low. needed m (omega (arith, low, few.2));
+        all = λ steps. omega (arith, all steps, same (inr steps));
+      },
+    )
 
 -- how far a run from any state has gone on with such a state
 pub record GoneTo (bounds : Bounds) (old : State) (e : End) (state : State) : Type 0 where
   pub later : old.interactions ≤ state.interactions
-  pub within : state.interactions ≤ max bounds.steps old.interactions
+  pub within : old.rounds ≡ None → state.interactions ≤ max bounds.steps old.interactions
   pub millis : old.millis ≤ state.millis
   pub ended : (state.ended ≡ true) ↔ (e ≡ Quiet)
 
@@ -72,6 +107,7 @@ module _ {D : Type 0} (keeps_model : D → Bool) (image : D → List ℕ → Typ
     pub onward : IsReachedFrom s kept k
     pub as_far : IsAsFar kept k
     pub has_ended : kept.ended ≡ ended
+    pub alike : AreAlike kept.rounds k.rounds
     pub course : Course keeps_model image clock left (IsKeptAfter s) (state_bytes first) start (state_bytes kept) keeper
 
   pub begins : IsKept first → IsReachedFrom s first first → HasKept first first.ended start
@@ -81,12 +117,13 @@ module _ {D : Type 0} (keeps_model : D → Bool) (image : D → List ℕ → Typ
     onward = itself;
     as_far = record { interactions = refl; by_rule = refl; ended = λ e. e };
     has_ended = refl;
+    alike = alike_itself first.rounds;
     course = no_keep (state_bytes first) start;
   }
 
   comes : (k new : Kept) (ended : Bool) (keeper : Keeper D) → (has : HasKept k ended keeper) → IsReachedFrom s has.kept new → IsKept new → GoesFurther k.interactions ended new
-      → length new.words ≤ MAX_WIDE_NODES → IsKeptAfter s (state_bytes has.kept) (state_bytes new)
-  comes k new ended keeper has onward is_kept further few = record {
+      → length new.words ≤ MAX_WIDE_NODES → AreAlike k.rounds new.rounds → IsKeptAfter s (state_bytes has.kept) (state_bytes new)
+  comes k new ended keeper has onward is_kept further few alike = record {
     before = has.kept;
     after = new;
     old_is = refl;
@@ -96,28 +133,31 @@ module _ {D : Type 0} (keeps_model : D → Bool) (image : D → List ℕ → Typ
     from = onward;
     further = subst (λ (n : ℕ). GoesFurther n has.kept.ended new) (sym has.as_far.interactions) (subst (λ (b : Bool). GoesFurther k.interactions b new) (sym has.has_ended) further);
     few = few;
+    alike = alike_on has.kept.rounds k.rounds new.rounds has.alike alike;
   }
 
   keeps_more : (k new : Kept) (ended now_ended : Bool) (keeper now : Keeper D) → (has : HasKept k ended keeper) → IsReachedFrom s has.kept new → IsReachedFrom s new new → IsKept new
       → GoesFurther k.interactions ended new → length new.words ≤ MAX_WIDE_NODES → IsKeep keeps_model image clock left (state_bytes new) (Ok tt) keeper now → now_ended ≡ new.ended
-      → HasKept new now_ended now
-  keeps_more k new ended now_ended keeper now has onward itself is_kept further few keep told = record {
+      → AreAlike k.rounds new.rounds → HasKept new now_ended now
+  keeps_more k new ended now_ended keeper now has onward itself is_kept further few keep told alike = record {
     kept = new;
     is_kept = is_kept;
     onward = itself;
     as_far = record { interactions = refl; by_rule = refl; ended = λ e. e };
     has_ended = sym told;
-    course = one_more (state_bytes first) (state_bytes has.kept) (state_bytes new) start keeper now has.course (comes k new ended keeper has onward is_kept further few) keep;
+    alike = alike_itself new.rounds;
+    course = one_more (state_bytes first) (state_bytes has.kept) (state_bytes new) start keeper now has.course (comes k new ended keeper has onward is_kept further few alike) keep;
   }
 
   keeps_still : (k new : Kept) (ended now_ended : Bool) (keeper now : Keeper D) → (has : HasKept k ended keeper) → IsReachedFrom s has.kept new → k.interactions ≡ new.interactions → new.by_rule ≡ k.by_rule
-      → (new.ended ≡ true → ended ≡ true) → now_ended ≡ ended → now ≡ keeper → HasKept new now_ended now
-  keeps_still k new ended now_ended keeper now has onward same counts still told stayed = subst (λ (n : Keeper D). HasKept new now_ended n) (sym stayed) (record {
+      → (new.ended ≡ true → ended ≡ true) → now_ended ≡ ended → now ≡ keeper → AreAlike k.rounds new.rounds → HasKept new now_ended now
+  keeps_still k new ended now_ended keeper now has onward same counts still told stayed alike = subst (λ (n : Keeper D). HasKept new now_ended n) (sym stayed) (record {
     kept = has.kept;
     is_kept = has.is_kept;
     onward = onward;
     as_far = record { interactions = has.as_far.interactions ∙ same; by_rule = has.as_far.by_rule ∙ sym counts; ended = λ e. has.has_ended ∙ still e };
     has_ended = has.has_ended ∙ sym told;
+    alike = alike_on has.kept.rounds k.rounds new.rounds has.alike alike;
     course = has.course;
   })
 
@@ -125,10 +165,10 @@ module _ {D : Type 0} (keeps_model : D → Bool) (image : D → List ℕ → Typ
   pub keeps_on : (k new : Kept) (ended now_ended : Bool) (keeper now : Keeper D) → (has : HasKept k ended keeper) → IsReachedFrom s has.kept new → IsReachedFrom s new new
       → (k.interactions ≡ new.interactions → new.by_rule ≡ k.by_rule)
       → (GoesFurther k.interactions ended new × IsKept new × (length new.words ≤ MAX_WIDE_NODES) × IsKeep keeps_model image clock left (state_bytes new) (Ok tt) keeper now × (now_ended ≡ new.ended))
-      ⊎ ((k.interactions ≡ new.interactions) × (new.ended ≡ true → ended ≡ true) × (now_ended ≡ ended) × (now ≡ keeper)) → HasKept new now_ended now
-  keeps_on k new ended now_ended keeper now has onward itself counts done = ⊎_elim
-      (λ more. keeps_more k new ended now_ended keeper now has onward itself more.1 more.0 more.2 more.3 more.4)
-      (λ still. keeps_still k new ended now_ended keeper now has onward still.0 (counts still.0) still.1 still.2 still.3)
+      ⊎ ((k.interactions ≡ new.interactions) × (new.ended ≡ true → ended ≡ true) × (now_ended ≡ ended) × (now ≡ keeper)) → AreAlike k.rounds new.rounds → HasKept new now_ended now
+  keeps_on k new ended now_ended keeper now has onward itself counts done alike = ⊎_elim
+      (λ more. keeps_more k new ended now_ended keeper now has onward itself more.1 more.0 more.2 more.3 more.4 alike)
+      (λ still. keeps_still k new ended now_ended keeper now has onward still.0 (counts still.0) still.1 still.2 still.3 alike)
       done
 
   pub way_of : (k : Kept) (ended : Bool) (keeper : Keeper D) → HasKept k ended keeper → Way keeps_model image clock left (IsKeptAfter s) (state_bytes first) start keeper
@@ -137,10 +177,10 @@ module _ {D : Type 0} (keeps_model : D → Bool) (image : D → List ℕ → Typ
   -- and after one that was refused
   pub way_refused : (k new : Kept) (ended : Bool) (keeper now : Keeper D) → (has : HasKept k ended keeper) → IsReachedFrom s has.kept new
       → (now ≡ keeper) ⊎ ((fault : KeepFault) × GoesFurther k.interactions ended new × IsKept new × (length new.words ≤ MAX_WIDE_NODES) × IsKeep keeps_model image clock left (state_bytes new) (Err fault) keeper now)
-      → Way keeps_model image clock left (IsKeptAfter s) (state_bytes first) start now
-  way_refused k new ended keeper now has onward done = ⊎_elim
+      → AreAlike k.rounds new.rounds → Way keeps_model image clock left (IsKeptAfter s) (state_bytes first) start now
+  way_refused k new ended keeper now has onward done alike = ⊎_elim
       (λ same. subst (λ (n : Keeper D). Way keeps_model image clock left (IsKeptAfter s) (state_bytes first) start n) (sym same) (way_of k ended keeper has))
-      (λ refused. last_refused (state_bytes first) (state_bytes has.kept) (state_bytes new) start keeper now refused.0 has.course (comes k new ended keeper has onward refused.2 refused.1 refused.3) refused.4)
+      (λ refused. last_refused (state_bytes first) (state_bytes has.kept) (state_bytes new) start keeper now refused.0 has.course (comes k new ended keeper has onward refused.2 refused.1 refused.3 alike) refused.4)
       done
 
 -- what was kept goes as far as what a run has come to

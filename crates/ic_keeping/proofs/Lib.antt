@@ -1,6 +1,7 @@
 pub mod Quiet
 pub mod LowNames
 pub mod WayLemmas
+pub mod ByRounds
 pub mod Orders
 pub mod Resuming
 pub mod Refusing

@@ -95,16 +95,16 @@ stops_at s start old new fault is stops = record { back = stops.back; why = stop
 
 -- a life from a state that was found: it has ended, or stopped
 module _ {D : Type 0} (disk : Ghosts D) (s : SystemParts) where
-  pub ends_life : (bounds : Bounds) (asked : Asked) (least : ℕ) (first second : D) (start : Start) (keeper : Keeper D) (run : Ended) (new : Keeper D) → IsStartOf s start → IsKept (kept_by start.state)
-      → IsOpened disk (kept_by start.state) first second keeper → least ≤ start.state.interactions → EndsOnWay disk bounds asked start keeper run new → HasEnded disk s bounds asked least first second run new
-  ends_life bounds asked least first second start keeper run new is is_kept opened no_less ends = record {
+  pub ends_life : (bounds : Bounds) (most : ℕ) (asked : Asked) (least : ℕ) (first second : D) (start : Start) (keeper : Keeper D) (run : Ended) (new : Keeper D) → IsStartOf s start → IsKept (kept_by start.state)
+      → IsOpened disk (kept_by start.state) first second keeper → least ≤ start.state.interactions → EndsOnWay disk bounds most asked start keeper run new → HasEnded disk s bounds most asked least first second run new
+  ends_life bounds most asked least first second start keeper run new is is_kept opened no_less ends = record {
     found = kept_by start.state;
     keeper = keeper;
     life = record { is_kept = is_kept; state = is.state; opened = opened; way = ends.way s is is_kept };
     no_less = no_less;
     has_run = ends.has_run s is;
     on = ends.on;
-    kept = ends.kept s is is_kept (opened.model, opened.keeps);
+    kept = λ between. ends.kept s is is_kept (opened.model, opened.keeps) between;
   }
 
   pub stops_life : (first second : D) (start : Start) (keeper : Keeper D) (fault : ResumeFault D) → IsStartOf s start → IsKept (kept_by start.state)

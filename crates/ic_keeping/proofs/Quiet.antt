@@ -45,3 +45,10 @@ quiet_too laws rs c is set over low quiet next =
     quiet_from laws rs.rules next (raised net.others (renumbered c))
     (laws.same rs (raised net.more c) (raised net.others (renumbered c)) set over (raised_names net.more c is) net.same
     (quiet_from laws rs.rules (c.next + net.more) c quiet))
+
+-- and so is each that is the same net, wherever fresh names begin
+pub quiet_same : QuietLaws → (rs : Rules) (c d : Configuration) → HasNames c → IsRuleSet rs → IsTrue (is_over rs.symbols c) → SameButNext c d → IsQuiet rs.rules c → IsQuiet rs.rules d
+quiet_same laws rs c d is set over net quiet =
+    quiet_from laws rs.rules d.next (raised net.others d)
+    (laws.same rs (raised net.more c) (raised net.others d) set over (raised_names net.more c is) net.same
+    (quiet_from laws rs.rules (c.next + net.more) c quiet))

@@ -34,7 +34,7 @@ use Rattle.ic_round.specs.Quiet.{IsQuiet}
 use Rattle.ic_state.specs.State.{Kept}
 use Rattle.ic_state.specs.Words.{IsKeptWord}
 use Rattle.ic_keeping.specs.inner.Pieces.{ComesTogether, IsWritten}
-use Rattle.ic_keeping.specs.Way.{AreSums, ComesPastLimits, EndsWithin, IsAnswer, IsOnWay, IsReachedFrom, IsSound, IsStateOf}
+use Rattle.ic_keeping.specs.Way.{AreSums, ComesPastLimits, EndsWithin, IsAfterRounds, IsAnswer, IsOnWay, IsReachedFrom, IsSound, IsStateOf}
 use Rattle.ic_keeping.proofs.LowNames.{TellingLaws, low_words}
 use Rattle.ic_keeping.proofs.Quiet.{QuietLaws, quiet_too}
 
@@ -88,7 +88,7 @@ counts_stay rules [] some more sums none counts adds = ext_get_or 0 sums some ad
     omega (arith, adds.each i (omega (arith, inside, adds.all)), counts.each i (omega (arith, inside, adds.all, adds.long, counts.all))))
 counts_stay rules (x ∷ fired) some more sums none counts adds = absurd (omega (arith, none))
 
-same_parts : (c d : Configuration) → c.interface ≡ d.interface → c.equations ≡ d.equations → c.next ≡ d.next → c ≡ d
+pub same_parts : (c d : Configuration) → c.interface ≡ d.interface → c.equations ≡ d.equations → c.next ≡ d.next → c ≡ d
 same_parts c d one two three = λ i. record { interface = one i; equations = two i; next = three i }
 
 module _ (naming : NamingLaws) (laws : ReachingLaws) (s t : SystemParts) (sound : IsSound s) (c : Configuration) (before : List ℕ) (was : Reaches s.rules.rules s.config c before)
@@ -116,7 +116,7 @@ module _ (naming : NamingLaws) (laws : ReachingLaws) (s t : SystemParts) (sound 
       abbrev above : ℕ
       above = one_above (configuration_names (kept 0))
 
-      free_low : (x : ℕ) → occurrences x (configuration_names answer) ≡ 1 → x ≤ MAX_NAME
+      pub free_low : (x : ℕ) → occurrences x (configuration_names answer) ≡ 1 → x ≤ MAX_NAME
       free_low x once =
           let first = (laws.free s.rules s.config answer (before ++ r.fired) sound.rules sound.over sound.names further x).1 once in
           let begins = (laws.free s.rules s.config t.config before sound.rules sound.over sound.names begun x).0 first in
@@ -152,7 +152,7 @@ module _ (naming : NamingLaws) (laws : ReachingLaws) (s t : SystemParts) (sound 
   abbrev fired : List ℕ
   fired = is.way.fired ++ r.fired
 
-  new_written : configuration_of new.words new.terms (MAX_NAME + 1) ≡ renumbered answer
+  pub new_written : configuration_of new.words new.terms (MAX_NAME + 1) ≡ renumbered answer
   new_written =
       ap (λ (ws : List Word). configuration_of ws new.terms (MAX_NAME + 1)) same_words
       ∙ ap (λ (n : ℕ). configuration_of words n (MAX_NAME + 1)) same_terms
@@ -187,10 +187,26 @@ module _ (naming : NamingLaws) (laws : ReachingLaws) (s t : SystemParts) (sound 
     written = new_written;
   }
 
+  -- the same, by an end that is known otherwise: it is this answer
+  pub answer_with : (most : Bounds) → k.interactions + bounds.steps ≤ max most.steps k.interactions → (end ≡ Steps → most.steps ≤ new.interactions) → (last : End) → end ≡ last
+      → (is : IsAnswer s most last new) × (is.answer ≡ answer)
+  answer_with most few steps last same = (
+    record {
+      sound = sound;
+      answer = answer;
+      way = on_way;
+      ended = subst (λ (e : End). EndsWithin s.rules.rules most answer new.interactions e) same
+          (ends_within s.rules.rules bounds most answer j new.interactions end ended_by steps (λ early. omega (arith, few, sum, early)));
+      together = together;
+      written = new_written;
+    },
+    refl,
+  )
+
   answer_quiet : end ≡ Quiet → IsQuiet s.rules.rules answer
   answer_quiet ended = (subst (λ (e : End). EndsBy s.rules.rules bounds answer j e) ended ended_by).0
 
-  abbrev new_next : ℕ
+  abbrev pub new_next : ℕ
   new_next = one_above (configuration_names (configuration_of new.words new.terms 0))
 
   -- from an earlier state, too
@@ -205,8 +221,9 @@ module _ (naming : NamingLaws) (laws : ReachingLaws) (s t : SystemParts) (sound 
       names = laws.names s.rules.rules s.config middle.config from.was.way.fired from.was.way.reached;
     }
 
-    pub reached_from : QuietLaws → TellingLaws → k.millis ≤ new.millis → (new.ended ≡ true → end ≡ Quiet) → IsWhole new.words → (n : ℕ) → length (forest new.words) ≡ new.terms + 2 * n → IsReachedFrom s first new
-    reached_from quiet_laws telling later ended whole n counted = record {
+    pub reached_from : QuietLaws → TellingLaws → k.millis ≤ new.millis → (new.ended ≡ true → end ≡ Quiet) → IsWhole new.words → (n : ℕ) → length (forest new.words) ≡ new.terms + 2 * n
+        → IsAfterRounds s new.rounds (configuration_of new.words new.terms new_next) → IsReachedFrom s first new
+    reached_from quiet_laws telling later ended whole n counted rounds = record {
       was = from.was;
       is = record {
         sound = sound;
@@ -227,6 +244,7 @@ module _ (naming : NamingLaws) (laws : ReachingLaws) (s t : SystemParts) (sound 
         whole = whole;
         equations = n;
         counted = counted;
+        rounds = rounds;
       };
       more = from.more ++ r.fired;
       reached = kept_reached naming laws middle t middle_sound (configuration_of k.words k.terms from.is.next) from.more from.reached rules interface equations names bounds answer end j more r

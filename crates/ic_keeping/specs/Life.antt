@@ -1,5 +1,5 @@
 -- One life of a reduction that is kept, what it tells, and why it stops (this project's choice).
-use Rattle.std.specs.Prelude.{◌≡◌, ◌≢◌, ◌⊎◌, ◌↔◌, ◌≤◌, ℕ, ◌-◌, ◌^◌, true, false, List, [], IsNone, IsTrue, max, if◌then◌else◌}
+use Rattle.std.specs.Prelude.{◌≡◌, ◌≢◌, ◌⊎◌, ◌↔◌, ◌<◌, ◌≤◌, ℕ, ◌-◌, ◌^◌, true, false, List, [], None, Some, IsNone, IsTrue, max, if◌then◌else◌}
 use Rattle.std.specs.Arc.{arc_value}
 use Rattle.std.specs.Option.{option_map}
 use Rattle.ic_streams.specs.Streams.{line_of}
@@ -13,7 +13,7 @@ use Rattle.ic_frames.specs.declared.faults.KeepFault.TheVariants as keep
 use Rattle.ic_frames.specs.declared.faults.OpenCause.{OpenCause}
 use Rattle.ic_frames.specs.declared.faults.OpenCause.TheVariants as opening
 use Rattle.ic_in_place.specs.declared.running.Bounds.{Bounds}
-use Rattle.ic_in_place.specs.declared.running.End.TheVariants.{Quiet}
+use Rattle.ic_in_place.specs.declared.running.End.TheVariants.{Quiet, Steps}
 use Rattle.ic_in_place.specs.declared.stream.Asked.{Asked}
 use Rattle.ic_in_place.specs.Reductions.{is_written}
 use Rattle.ic_kept.specs.declared.keeper.Keeper.{Keeper}
@@ -29,7 +29,7 @@ use Rattle.ic_keeping.specs.declared.beginning.Start.{Start}
 use Rattle.ic_keeping.specs.declared.fault.KeepingFault.{KeepingFault}
 use Rattle.ic_keeping.specs.declared.fault.KeepingFault.TheVariants.{Device, Keep, Limit, Memory, NotEmpty, Open, Unsound}
 use Rattle.ic_keeping.specs.declared.going.Ended.{Ended}
-use Rattle.ic_keeping.specs.Way.{ComesPastLimits, IsAnswer, IsAsFar, IsFormFrom, IsKeptAfter, IsReachedFrom, IsStateOf}
+use Rattle.ic_keeping.specs.Way.{ComesPastLimits, IsAnswer, IsAnswerByRounds, IsAsFar, IsFormFrom, IsKeptAfter, IsReachedFrom, IsStateOf}
 
 -- with what the reduction of this system begins or goes on: its rules, and a state of it
 pub record IsStartOf (s : SystemParts) (start : Start) : Type 0 where
@@ -49,21 +49,32 @@ pub record IsTold (s : SystemParts) (asked : Asked) (ended : Ended) : Type 0 whe
       (configuration_of ended.state.words.items ended.state.terms 0)
   pub unstuck : ended.end ≢ Quiet → IsNone ended.stuck
 
--- A run from this state of the reduction has ended so. Its answer is one of the system, and is reached from that state.
-pub record HasRun (s : SystemParts) (bounds : Bounds) (asked : Asked) (k : Kept) (run : Ended)
-    : Type 0 where
-  pub answer : IsAnswer s bounds run.end (kept_by run.state)
+-- A run from this state of the reduction has ended so. Its answer is one of the system, and is reached from that state. In any
+-- order it is one within these bounds. By rounds it is the net after as many as are told, at most so many, or as were made before.
+pub record HasRun (s : SystemParts) (bounds : Bounds) (most : ℕ) (asked : Asked) (k : Kept)
+    (run : Ended) : Type 0 where
+  pub within : Bounds
+  pub bounded : k.rounds ≡ None → within ≡ bounds
+  pub answer : IsAnswer s within run.end (kept_by run.state)
   pub told : IsTold s asked run
   pub onward : IsReachedFrom s k (kept_by run.state)
+  pub by_rounds : (made : ℕ) → k.rounds ≡ Some made → (rounds : ℕ) × (run.rounds ≡ Some rounds)
+      × (rounds ≤ max most made) × IsAnswerByRounds s most rounds run.end answer.answer
+  pub between : (made : ℕ) → k.rounds ≡ Some made → made < most
+      → (run.end ≡ Quiet) ⊎ (run.end ≡ Steps) → run.state.rounds ≡ run.rounds
 
--- A run from any state goes on from what that says: it has no fewer interactions, and no more than are allowed or than there
--- were. It is told to have ended, and a pair to be stuck, only at a quiet end.
+-- A run from any state goes on from what that says: it has no fewer interactions. In any order it has no more than are allowed
+-- or than there were. It is told to have ended, and a pair to be stuck, only at a quiet end.
 pub record GoesOn (bounds : Bounds) (k : Kept) (run : Ended) : Type 0 where
   pub later : k.interactions ≤ run.state.interactions
-  pub within : run.state.interactions ≤ max bounds.steps k.interactions
+  pub within : k.rounds ≡ None → run.state.interactions ≤ max bounds.steps k.interactions
   pub millis : k.millis ≤ run.state.millis
   pub ended : (run.state.ended ≡ true) ↔ (run.end ≡ Quiet)
   pub unstuck : run.end ≢ Quiet → IsNone run.stuck
+
+-- A run from this state has ended between two rounds, if it goes by rounds. Within one nothing is kept.
+abbrev pub EndsBetween : Kept → Ended → Type 0
+EndsBetween k run = (k.rounds ≡ None) ⊎ ((rounds : ℕ) × (run.state.rounds ≡ Some rounds))
 
 -- a run from a state of its reduction stops by these faults only
 abbrev pub StopsARun : KeepingFault → Type 0
@@ -201,12 +212,12 @@ module _ {D : Type 0} (disk : Ghosts D) where
     pub life : IsLife s begun first second keeper n
 
   -- A life has come to its end: it has found a state, and gone on from there.
-  pub record HasEnded (s : SystemParts) (bounds : Bounds) (asked : Asked) (least : ℕ)
+  pub record HasEnded (s : SystemParts) (bounds : Bounds) (most : ℕ) (asked : Asked) (least : ℕ)
       (first second : D) (run : Ended) (n : Keeper D) : Type 0 where
     pub found : Kept
     pub keeper : Keeper D
     pub life : IsLife s found first second keeper n
     pub no_less : least ≤ found.interactions
-    pub has_run : HasRun s bounds asked found run
+    pub has_run : HasRun s bounds most asked found run
     pub on : GoesOn bounds found run
-    pub kept : HasAsFar s (kept_by run.state) n
+    pub kept : EndsBetween found run → HasAsFar s (kept_by run.state) n

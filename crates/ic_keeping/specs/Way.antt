@@ -1,5 +1,5 @@
 -- How far a reduction that is kept has come (this project's choice).
-use Rattle.std.specs.Prelude.{◌≡◌, ◌⊎◌, ℕ, ◌+◌, ◌-◌, ◌*◌, ◌^◌, ◌<◌, ◌≤◌, Bool, List, true, false, Ok, IsTrue, length, slice_index_or}
+use Rattle.std.specs.Prelude.{◌≡◌, ◌⊎◌, ℕ, ◌+◌, ◌-◌, ◌*◌, ◌^◌, ◌<◌, ◌≤◌, Bool, List, Option, None, Some, true, false, Ok, IsTrue, length, slice_index_or}
 use Rattle.ic_term.specs.Configuration.{Configuration, configuration_nodes}
 use Rattle.ic_term.specs.Symbol.{is_over}
 use Rattle.ic_term.specs.declared.limits.TheConstants.{MAX_WIDE_NODES}
@@ -14,6 +14,8 @@ use Rattle.ic_text.specs.declared.limits.TheConstants.{MAX_NAME}
 use Rattle.ic_naming.specs.Naming.{renumbered}
 use Rattle.ic_round.specs.Naming.{HasNames}
 use Rattle.ic_round.specs.Quiet.{IsQuiet}
+use Rattle.ic_round.specs.Rounds.{iterate}
+use Rattle.ic_reaching.specs.OneNet.{OneNet, SameButNext}
 use Rattle.ic_reaching.specs.Reaching.{Reaches}
 use Rattle.ic_in_place.specs.declared.running.Bounds.{Bounds}
 use Rattle.ic_in_place.specs.declared.running.End.{End}
@@ -43,10 +45,27 @@ pub record IsSound (s : SystemParts) : Type 0 where
   pub over : IsTrue (is_over s.rules.symbols s.config)
   pub names : HasNames s.config
 
+-- So many rounds of a system's configuration lead to this one, wherever fresh names begin, and no fewer end quiet.
+pub record AreRoundsTo (s : SystemParts) (rounds : ℕ) (c : Configuration) : Type 0 where
+  pub net : SameButNext (iterate s.rules.rules rounds s.config) c
+  pub needed : (n : ℕ) → n < rounds → ¬ IsQuiet s.rules.rules (iterate s.rules.rules n s.config)
+
+-- what is reached where so many rounds are over, if a reduction goes by rounds
+abbrev pub IsAfterRounds : SystemParts → Option ℕ → Configuration → Type 0
+IsAfterRounds s None c = Unit {0}
+IsAfterRounds s (Some rounds) c = AreRoundsTo s rounds c
+
+-- both go by rounds, the second no less far, or neither does
+abbrev pub AreAlike : (before after : Option ℕ) → Type 0
+AreAlike None None = Unit {0}
+AreAlike None (Some after) = ⊥
+AreAlike (Some before) None = ⊥
+AreAlike (Some before) (Some after) = before ≤ after
+
 -- What is kept is a state of a reduction of this system: its text is read as a system with the same rules and symbols, and its
 -- words write a configuration that is reached from this system's by the interactions that it tells. Each of its agents has its arguments, and each
 -- of its equations two sides. If it isn't too large to be read, its names may stand in a text. If it has ended, no step is
--- possible.
+-- possible. If the reduction goes by rounds, its net is that after as many as it tells.
 pub record IsStateOf (s : SystemParts) (k : Kept) : Type 0 where
   pub sound : IsSound s
   pub read : SystemParts
@@ -59,6 +78,7 @@ pub record IsStateOf (s : SystemParts) (k : Kept) : Type 0 where
   pub whole : IsWhole k.words
   pub equations : ℕ
   pub counted : length (forest k.words) ≡ k.terms + 2 * equations
+  pub rounds : IsAfterRounds s k.rounds (configuration_of k.words k.terms next)
 
 -- A state of a reduction is reached from another one of it, by so many more interactions as it tells, and in more time. It
 -- has the same text.
@@ -109,6 +129,14 @@ pub record IsAnswer (s : SystemParts) (bounds : Bounds) (end : End) (k : Kept) :
   pub together : IsPutTogether answer
   pub written : configuration_of k.words k.terms (MAX_NAME + 1) ≡ renumbered answer
 
+-- What a run by rounds ends with, at most so many in all: as many were made as are told, no fewer end quiet, and where it has
+-- ended as one was over, this is the net after them.
+pub record IsAnswerByRounds (s : SystemParts) (most rounds : ℕ) (end : End) (answer : Configuration)
+    : Type 0 where
+  pub net : (end ≡ Quiet) ⊎ (end ≡ Steps) → OneNet answer (iterate s.rules.rules rounds s.config)
+  pub needed : (n : ℕ) → n < rounds → ¬ IsQuiet s.rules.rules (iterate s.rules.rules n s.config)
+  pub all : end ≡ Steps → most ≤ rounds
+
 -- the bytes of a state of the reduction of this system
 abbrev pub IsFormOf : SystemParts → List ℕ → Type 0
 IsFormOf s bytes = (k : Kept) × IsKept k × IsStateOf s k × (bytes ≡ state_bytes k)
@@ -126,7 +154,8 @@ GoesFurther interactions ended k =
     ⊎ ((interactions ≡ k.interactions) × (ended ≡ false) × (k.ended ≡ true))
 
 -- One state was kept, and this state of the reduction is kept after it. It is reached from there, and goes further. It has no
--- more names and agents than are read, so that no later life is refused it for its size. These are their bytes.
+-- more names and agents than are read, so that no later life is refused it for its size. Both go by rounds, or neither does. These
+-- are their bytes.
 pub record IsKeptAfter (s : SystemParts) (old new : List ℕ) : Type 0 where
   pub before : Kept
   pub after : Kept
@@ -137,6 +166,7 @@ pub record IsKeptAfter (s : SystemParts) (old new : List ℕ) : Type 0 where
   pub from : IsReachedFrom s before after
   pub further : GoesFurther before.interactions before.ended after
   pub few : length after.words ≤ MAX_WIDE_NODES
+  pub alike : AreAlike before.rounds after.rounds
 
 -- What is kept goes as far as this state: it has as many interactions, of each rule too, and has ended where this has.
 pub record IsAsFar (kept k : Kept) : Type 0 where

@@ -7,7 +7,7 @@ ghost use Rattle.ic_rules.specs.System.{SystemParts};
 ghost use Rattle.ic_state.specs.State.{kept_by};
 ghost use Rattle.ic_state.specs.Words.{IsKeptWord};
 ghost use Rattle.ic_keeping.specs.declared.fault.KeepingFault.{KeepingFault};
-ghost use Rattle.ic_keeping.specs.Life.{AreEmpty, GoesOn, HasAsFar, HasFailed, HasRun, IsFirstLife, IsRead, IsStartOf, KeepModel, StopsABegin, StopsARun, StopsAt};
+ghost use Rattle.ic_keeping.specs.Life.{AreEmpty, EndsBetween, GoesOn, HasAsFar, HasFailed, HasRun, IsFirstLife, IsRead, IsStartOf, KeepModel, StopsABegin, StopsARun, StopsAt};
 ghost use Rattle.ic_keeping.specs.Way.{ComesPastLimits};
 
 use crate::beginning::{ResumeFault, Start, begin};
@@ -29,15 +29,16 @@ impl<T: Threads + Sync, C: Clock + Sync, V: Watch> Run<'_, T, C, V> {
     ) -> Result<(Ended, Keeper<D>), ResumeFault<D>>
         // Of a state and rules that `begun` has read it answers their system.
         ensures answer { (s : SystemParts) → IsStartOf s start → IfOk result (λ lived.
-            HasRun s self.now.bounds self.now.asked (kept_by start.state) lived.0) }
+            HasRun s self.now.bounds self.now.rounds self.now.asked (kept_by start.state) lived.0) }
         ensures on { IfOk result (λ lived.
             GoesOn self.now.bounds (kept_by start.state) lived.0) }
         // It has begun two files that were empty, as `begin` does, and is the first life of the reduction. A state is kept then
-        // that goes as far.
+        // that goes as far, unless it has ended within a round.
         ensures life { (s : SystemParts) → IsStartOf s start → KeepModel D.Disk first second
             → IfOk result (λ lived. AreEmpty D.Disk first second
             × IsFirstLife D.Disk s (kept_by start.state) lived.1
-            × HasAsFar D.Disk s (kept_by lived.0.state) lived.1) }
+            × (EndsBetween (kept_by start.state) lived.0
+            → HasAsFar D.Disk s (kept_by lived.0.state) lived.1)) }
         // So it is where it stops by a fault, unless it is refused the files: then they are as `begin` leaves them.
         ensures stopped { (s : SystemParts) → IsStartOf s start → KeepModel D.Disk first second
             → IfErr result (λ fault. StopsABegin fault.cause ⊎ ((n : Keeper D)

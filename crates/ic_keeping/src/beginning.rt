@@ -1,6 +1,6 @@
 //! The state that a reduction begins with, in two files, and the one with which it goes on.
 
-ghost use Rattle.std.specs.Prelude.{◌≡◌, ◌≢◌, ◌⊎◌, ◌≤◌, ℕ, List, [], false, Ok, Err, IfOk, IfErr, IsTrue, IsErrOf, OnOk, length, slice_index_or};
+ghost use Rattle.std.specs.Prelude.{◌≡◌, ◌≢◌, ◌⊎◌, ◌≤◌, ℕ, List, [], None, Some, false, if◌then◌else◌, Ok, Err, IfOk, IfErr, IsTrue, IsErrOf, OnOk, length, slice_index_or};
 ghost use Rattle.std.specs.Arc.{arc_value};
 ghost use Rattle.std.specs.List.{AllByRecursion};
 ghost use Rattle.ic_disk.specs.Images.{Within};
@@ -37,8 +37,8 @@ pub struct Start {
     pub rules: Arc<RuleSet>,
 }
 
-/// With what the reduction of a text begins.
-pub fn begun(alloc: Global, text: &[u8]) -> Result<Start, Misread>
+/// With what the reduction of a text begins, by rounds or in any order.
+pub fn begun(alloc: Global, text: &[u8], by_rounds: bool) -> Result<Start, Misread>
     ensures read { IfOk result (λ begun. (s : SystemParts)
         × ReadsSystemWithin Limits.Wide text.now (Ok s) × IsBegun s (kept_by begun.state)
         × (arc_value begun.rules ≡ s.rules)) }
@@ -49,8 +49,11 @@ pub fn begun(alloc: Global, text: &[u8]) -> Result<Start, Misread>
     // Each word has a number, so that no file is refused it.
     ensures numbered { IfOk result (λ begun.
         AllByRecursion IsKeptWord begun.state.words.items) }
+    ensures rounds { IfOk result (λ begun.
+        begun.state.rounds ≡ if by_rounds then Some 0 else None) }
 {
     ic_reaching::laws::what_is_reached_is_one_net();
+    ic_reaching::laws::where_names_begin_is_no_matter();
     ic_text::laws::next_is_one_above_the_names();
     let system = find_wide_system(alloc, Limits::Wide, text)?;
     systems_are_sound(&system);
@@ -66,8 +69,16 @@ pub fn begun(alloc: Global, text: &[u8]) -> Result<Start, Misread>
         by_rule,
         ended: false,
         millis: 0,
+        rounds: rounds_begun(by_rounds),
     };
     Ok(Start { state, rules })
+}
+
+/// How many rounds are over as a reduction begins, where it goes by rounds.
+fn rounds_begun(by_rounds: bool) -> Option<u64>
+    ensures { result ≡ if by_rounds then Some 0 else None }
+{
+    if by_rounds { Some(0) } else { None }
 }
 
 /// So many counts of nothing.

@@ -1,6 +1,6 @@
 //! A reduction that goes on from a state, and is kept after each piece that has gone further.
 
-ghost use Rattle.std.specs.Prelude.{◌≡◌, ◌≢◌, ◌⊎◌, ◌↔◌, ◌<◌, ◌+◌, ◌-◌, ◌^◌, ◌≤◌, ℕ, [], Ok, Err, IfOk, IfErr, IsNone, OnOk, OnErr, length, max, slice_index_or, true, false, if◌then◌else◌};
+ghost use Rattle.std.specs.Prelude.{◌≡◌, ◌≢◌, ◌⊎◌, ◌↔◌, ◌<◌, ◌+◌, ◌-◌, ◌^◌, ◌≤◌, ℕ, [], None, Some, Ok, Err, IfOk, IfErr, IsNone, OnOk, OnErr, length, max, slice_index_or, true, false, if◌then◌else◌};
 ghost use Rattle.std.specs.Arc.{arc_value};
 ghost use Rattle.ic_rules.specs.System.{SystemParts};
 ghost use Rattle.std.specs.List.{AllByRecursion};
@@ -17,8 +17,8 @@ ghost use Rattle.ic_state.specs.Words.{IsKeptWord};
 ghost use Rattle.ic_streams.specs.Streams.{line_of};
 ghost use Rattle.ic_term.specs.declared.limits.TheConstants.{MAX_WIDE_NODES};
 ghost use Rattle.ic_text.specs.SystemText.{ReadsSystemWithin};
-ghost use Rattle.ic_keeping.specs.inner.Pieces.{ComesTogether, EndsOnWay, IsOfAPiece, IsPiece, IsPrinted, IsWritten, StopsAPiece, StopsOnWay};
-ghost use Rattle.ic_keeping.specs.Life.{GoesOn, HasAsFar, HasRun, HasState, IsStartOf, IsTold, KeepFails, KeepsOn, StopsARun, StopsFrom, TellsOfKeeper};
+ghost use Rattle.ic_keeping.specs.inner.Pieces.{ComesTogether, EndsOnWay, IsMade, IsOfAPiece, IsPiece, IsPieceByRounds, IsPrinted, IsWritten, StopsAPiece, StopsOnWay};
+ghost use Rattle.ic_keeping.specs.Life.{EndsBetween, GoesOn, HasAsFar, HasRun, HasState, IsStartOf, IsTold, KeepFails, KeepsOn, StopsARun, StopsFrom, TellsOfKeeper};
 ghost use Rattle.ic_keeping.specs.Way.{AreSums, GoesFurther, IsAnswer, IsReachedFrom, IsStateOf};
 
 use crate::beginning::{ResumeFault, Start, bytes_of, handed_back};
@@ -27,14 +27,18 @@ use crate::fault::KeepingFault;
 use crate::pace::{Pace, Timed, millis_of};
 use crate::systems::{states_are_reached, system_of, systems_are_sound};
 use ic_disk::Disk;
-use ic_in_place::{Asked, Bounds, End, Reduced, Watch, circle_text, is_written, stuck_text};
+use ic_flat::WideSystem;
+use ic_in_place::{
+    Asked, Bounds, End, Reduced, RoundBounds, Watch, circle_text, is_written, round_in_place,
+    stuck_text,
+};
 use ic_kept::Keeper;
 use ic_rules::RuleSet;
 use ic_state::State;
 use ic_term::{MAX_WIDE_NODES, Symbols};
 use ic_text::{Limits, TextFault, find_wide_system, put_words};
 use ic_workers::{Policy, reduce_by_workers};
-use std::alloc::Global;
+use std::alloc::{AllocError, Global};
 use std::mem::replace;
 use std::sync::Arc;
 use std::thread::Threads;
@@ -53,8 +57,10 @@ pub struct Ended {
     pub shared: u64,
     /// The rules of the text, and its symbols.
     pub rules: Arc<RuleSet>,
-    /// What was reached. What is kept goes as far.
+    /// What was reached. What is kept goes as far, unless that is within a round.
     pub state: State,
+    /// How many rounds are over, where it goes by rounds.
+    pub rounds: Option<u64>,
     /// The line of what was reached, where it is asked for.
     pub line: Vec<u8>,
     /// The symbols of the first equation of two agents, where the end is quiet.
@@ -124,12 +130,16 @@ struct Piece {
     equations: usize,
     // For how many milliseconds it made interactions.
     millis: u64,
+    // How many rounds are over, where it goes by rounds.
+    rounds: Option<u64>,
 }
 
-/// Puts into a state what was reduced, in so many milliseconds in all and so many in which interactions were made.
+/// Puts into a state what was reduced, in so many milliseconds in all and so many in which interactions were made. So many rounds
+/// are over.
 fn take_in(
     state: &mut State,
     reduced: Reduced,
+    rounds: Option<u64>,
     all: u64,
     millis: u64,
 ) -> Result<Piece, KeepingFault>
@@ -142,7 +152,9 @@ fn take_in(
         (AreSums state.old.by_rule.items reduced.by_rule.items state.new.by_rule.items) }
     ensures ended { OnOk result ((state.new.ended ≡ true) ↔ (reduced.end ≡ End.Quiet)) }
     ensures millis { OnOk result (state.old.millis ≤ state.new.millis) }
+    ensures between { OnOk result (state.new.rounds ≡ state.old.rounds) }
     ensures end { IfOk result (λ piece. piece.end ≡ reduced.end) }
+    ensures rounds { IfOk result (λ piece. piece.rounds ≡ rounds) }
     ensures equations { IfOk result (λ piece. piece.equations ≡ reduced.equations) }
     ensures refused { IfErr result (λ fault. fault ≡ KeepingFault.Limit) }
     ensures limit { length state.old.by_rule.items ≡ length reduced.by_rule.items
@@ -168,6 +180,7 @@ fn take_in(
         shared: reduced.shared,
         equations: reduced.equations,
         millis,
+        rounds,
     })
 }
 
@@ -181,13 +194,63 @@ fn is_quiet(end: End) -> bool
     }
 }
 
-/// Whether a run of so many interactions at most ends with a piece that has ended so.
-fn ends_run(end: End, interactions: u64, most: u64) -> bool
-    ensures ended { result ≡ true → end ≡ End.Steps → most ≤ interactions }
-    ensures goes_on { result ≡ false → (end ≡ End.Steps) × (interactions < most) }
+/// How many rounds are over after so many more, where a reduction goes by rounds.
+fn rounds_over(before: Option<u64>, made: u64) -> Option<u64>
+    ensures any { before ≡ None → result ≡ None }
+    ensures over { (n : ℕ) → before ≡ Some n → n + made < 2 ^ 64 → result ≡ Some (n + made) }
 {
-    match end {
-        End::Steps => interactions >= most,
+    match before {
+        Some(number) => Some(number.saturating_add(made)),
+        None => None,
+    }
+}
+
+/// How many rounds are over, where a piece has ended as one was, after some before it of so many at most.
+fn rounds_between(before: Option<u64>, most: u64, end: End, over: Option<u64>) -> Option<u64>
+    ensures any { before ≡ None → result ≡ None }
+    ensures between { (n : ℕ) → before ≡ Some n → n < most → (end ≡ End.Quiet) ⊎ (end ≡ End.Steps)
+        → result ≡ over }
+    ensures only { (n : ℕ) → result ≡ Some n → (over ≡ Some n)
+        × ((end ≡ End.Quiet) ⊎ (end ≡ End.Steps))
+        × ((m : ℕ) → before ≡ Some m → m < most) }
+{
+    match (before, end) {
+        (Some(number), End::Quiet | End::Steps) if number < most => over,
+        _ => None,
+    }
+}
+
+/// Whether a piece was broken off within a round, where so many were over before it and so many are after it. So it is also where
+/// no more may be made.
+fn is_broken(before: Option<u64>, after: Option<u64>) -> bool
+    ensures broken { result ≡ true → (after ≡ None) × ((n : ℕ) × (before ≡ Some n)) }
+    ensures whole { result ≡ false → (before ≡ None) ⊎ ((n : ℕ) × (after ≡ Some n)) }
+{
+    before.is_some() && after.is_none()
+}
+
+/// How many rounds are told of a run that ends so. Where a bound or a limit came before any pair had fired, it is none.
+fn rounds_told(end: End, interactions: u64, over: Option<u64>) -> Option<u64>
+    ensures between { (end ≡ End.Quiet) ⊎ (end ≡ End.Steps) → result ≡ over }
+    ensures some { (n : ℕ) → over ≡ Some n → (m : ℕ) × (result ≡ Some m) × (m ≤ n) }
+{
+    match (over, end) {
+        (Some(_), End::Nodes | End::Limit | End::Memory) if interactions == 0 => Some(0),
+        _ => over,
+    }
+}
+
+/// Whether a run of so many interactions at most, or of so many rounds, ends with a piece that has ended so.
+fn ends_run(end: End, interactions: u64, most: u64, over: Option<u64>, rounds: u64) -> bool
+    ensures ended { result ≡ true → end ≡ End.Steps → over ≡ None → most ≤ interactions }
+    ensures all { (n : ℕ) → result ≡ true → end ≡ End.Steps → over ≡ Some n → rounds ≤ n }
+    ensures goes_on { result ≡ false → (end ≡ End.Steps) × (over ≡ None → interactions < most) }
+    ensures more { (n : ℕ) → result ≡ false → over ≡ Some n → n + 1 < 2 ^ 64 }
+    ensures less { (n : ℕ) → result ≡ false → over ≡ Some n → n < rounds }
+{
+    match (end, over) {
+        (End::Steps, Some(number)) => number >= rounds,
+        (End::Steps, None) => interactions >= most,
         _ => true,
     }
 }
@@ -366,12 +429,17 @@ fn end_of(
     ensures end { IfOk result (λ ended. ended.end ≡ run.end) }
     ensures told { (s : SystemParts) → arc_value rules ≡ s.rules → IfOk result (IsTold s asked) }
     ensures unstuck { IfOk result (λ ended. ended.end ≢ End.Quiet → IsNone ended.stuck) }
+    ensures between { (run.end ≡ End.Quiet) ⊎ (run.end ≡ End.Steps)
+        → IfOk result (λ ended. ended.rounds ≡ run.rounds) }
+    ensures rounds { (n : ℕ) → run.rounds ≡ Some n
+        → IfOk result (λ ended. (m : ℕ) × (ended.rounds ≡ Some m) × (m ≤ n)) }
     ensures refused { IfErr result (λ fault. fault ≡ KeepingFault.Memory) }
 {
     let symbols = rules.symbols();
     let line = line_of(alloc, symbols, &state, run, asked)?;
     let stuck = stuck_of(alloc, symbols, &state, run)?;
     let circle = circle_of(alloc, symbols, &state, run)?;
+    let rounds = rounds_told(run.end, state.interactions, run.rounds);
     Ok(Ended {
         end: run.end,
         nodes: run.nodes,
@@ -379,6 +447,7 @@ fn end_of(
         shared,
         rules,
         state,
+        rounds,
         line,
         stuck,
         circle,
@@ -394,6 +463,8 @@ pub struct Run<'a, T, C, V> {
     /// How many threads make a piece, and how they share it.
     pub policy: Policy,
     pub bounds: Bounds,
+    /// How many rounds are made at most in all, where it goes by rounds. Those have no bound of interactions.
+    pub rounds: u64,
     /// How often it is kept.
     pub pace: Pace,
     pub asked: Asked,
@@ -401,8 +472,45 @@ pub struct Run<'a, T, C, V> {
 }
 
 impl<T: Threads + Sync, C: Clock + Sync, V: Watch> Run<'_, T, C, V> {
-    /// Reduces what a state says by several threads, by so many interactions at most, and puts it together. It tells why no
-    /// more were made, and how many names and agents there were.
+    /// Reduces a system by several threads, within these bounds, or by rounds, where so many were made before: then at least so
+    /// many interactions are made, unless it ends sooner. Tells how many rounds were made.
+    fn reduce_piece(
+        &self,
+        system: &WideSystem,
+        rounds: Option<u64>,
+        bounds: Bounds,
+        watch: &Timed<'_, C, V>,
+    ) -> Result<(Reduced, u64), AllocError>
+        ensures made { IfOk result (λ made.
+            IsMade system.now bounds self.now.rounds rounds made.0 made.1) }
+        ensures few { IfOk result (λ made. (over : ℕ) → rounds ≡ Some over
+            → over + made.1 < 2 ^ 64) }
+    {
+        match rounds {
+            Some(over) => {
+                let within = RoundBounds {
+                    rounds: self.rounds.saturating_sub(over),
+                    nodes: bounds.nodes,
+                };
+                round_in_place(self.alloc, system, within, bounds.steps, watch)
+            }
+            None => {
+                let reduced = reduce_by_workers(
+                    self.threads,
+                    self.clock,
+                    self.alloc,
+                    system,
+                    self.policy,
+                    bounds,
+                    watch,
+                )?;
+                Ok((reduced, 0))
+            }
+        }
+    }
+
+    /// Reduces what a state says, by several threads and so many interactions at most, or by rounds, and puts it together. It
+    /// tells why no more were made, and how many names and agents there were.
     fn run_piece(
         &self,
         rules: &Arc<RuleSet>,
@@ -416,10 +524,16 @@ impl<T: Threads + Sync, C: Clock + Sync, V: Watch> Run<'_, T, C, V> {
             → OnOk result (IsReachedFrom s first (kept_by state.new)
             × ComesTogether s first (kept_by state.new)) }
         ensures answer { (s : SystemParts) (most : Bounds) → arc_value rules.now ≡ s.rules
-            → IsStateOf s (kept_by state.old)
+            → IsStateOf s (kept_by state.old) → state.old.rounds ≡ None
             → state.old.interactions + bounds.steps ≤ max most.steps state.old.interactions
             → IfOk result (λ piece. (piece.end ≡ End.Steps → most.steps ≤ state.new.interactions)
             → IsAnswer s most piece.end (kept_by state.new)) }
+        // By rounds it is the net after those that are told, and all are made where it has ended at `Steps` and isn't whole.
+        ensures by_rounds { (s : SystemParts) (over : ℕ) → arc_value rules.now ≡ s.rules
+            → IsStateOf s (kept_by state.old) → state.old.rounds ≡ Some over
+            → IfOk result (λ piece. (within : Bounds)
+            × (is : IsAnswer s within piece.end (kept_by state.new))
+            × IsPieceByRounds s self.now.rounds over is.answer state.new piece) }
         ensures refused { (s : SystemParts) (first : Kept) → arc_value rules.now ≡ s.rules
             → IsReachedFrom s first (kept_by state.old)
             → IfErr result (StopsAPiece s first state.old) }
@@ -440,22 +554,21 @@ impl<T: Threads + Sync, C: Clock + Sync, V: Watch> Run<'_, T, C, V> {
         ic_naming::laws::names_are_told_apart();
         ic_naming::laws::renamed_words_write_renamed_terms();
         ic_naming::laws::renumbered_words_write_the_renumbered_configuration();
+        ic_reaching::laws::where_names_begin_is_no_matter();
+        ic_reaching::laws::one_net_is_an_equivalence();
+        ic_generations::laws::where_names_begin_is_no_matter_to_rounds();
+        ic_round::laws::chains_are_steps();
+        ic_round::laws::rounds_are_steps();
         let begun = millis_of(self.clock);
         let words = replace(&mut state.words, Vec::new(self.alloc));
         let system = system_of(self.alloc, rules, words, state.terms)?;
         systems_are_sound(&system);
         let timed = Timed::new(self.clock, self.watch, state.interactions);
-        let reduced = reduce_by_workers(
-            self.threads,
-            self.clock,
-            self.alloc,
-            &system,
-            self.policy,
-            bounds,
-            &timed,
-        )?;
+        let (reduced, made) = self.reduce_piece(&system, state.rounds, bounds, &timed)?;
+        let over = rounds_over(state.rounds, made);
+        state.rounds = rounds_between(state.rounds, self.rounds, reduced.end, over);
         let all = millis_of(self.clock).saturating_sub(begun);
-        let piece = take_in(state, reduced, all, timed.millis())?;
+        let piece = take_in(state, reduced, over, all, timed.millis())?;
         Ok(piece)
     }
 
@@ -481,12 +594,14 @@ impl<T: Threads + Sync, C: Clock + Sync, V: Watch> Run<'_, T, C, V> {
         // However often the reduction was stopped before, the answer is one of the system that was read first, and the
         // interactions are those of all runs.
         ensures answer { (s : SystemParts) → IsStartOf s start
-            → IfOk result (HasRun s self.now.bounds self.now.asked (kept_by start.state)) }
+            → IfOk result (HasRun s self.now.bounds self.now.rounds self.now.asked
+            (kept_by start.state)) }
         ensures on { IfOk result (GoesOn self.now.bounds (kept_by start.state)) }
-        // At Ok a state is kept that goes as far, and from which the answer is reached.
+        // At Ok a state is kept that goes as far, and from which the answer is reached, unless that is within a round.
         ensures kept { (s : SystemParts) → IsStartOf s start → IsKept (kept_by start.state)
             → HasState D.Disk (kept_by start.state) keeper.old
-            → IfOk result (λ run. HasAsFar D.Disk s (kept_by run.state) keeper.new) }
+            → IfOk result (λ run. EndsBetween (kept_by start.state) run
+            → HasAsFar D.Disk s (kept_by run.state) keeper.new) }
         // It keeps states of this reduction, each of which goes further than the one before it, and no others.
         ensures way { (s : SystemParts) → IsStartOf s start → IsKept (kept_by start.state)
             → KeepsOn D.Disk s (kept_by start.state) keeper.old keeper.new }
@@ -503,12 +618,17 @@ impl<T: Threads + Sync, C: Clock + Sync, V: Watch> Run<'_, T, C, V> {
         let mut kept_ended = state.ended;
         let mut shared: u64 = 0;
         for pieces in 0..u64::MAX {
-            let before = state.interactions;
+            let (before, rounds) = (state.interactions, state.rounds);
             let bounds = self.bounds_after(before, pace);
             let run = self.run_piece(&rules, &mut state, bounds)?;
+            if is_broken(rounds, state.rounds) {
+                let cut = end_of(self.alloc, rules, state, run, shared, self.asked)?;
+                return Ok(cut);
+            }
             let now_ended = keep_further(self.alloc, &state, before, kept_ended, keeper)?;
             shared = shared.saturating_add(run.shared);
-            if ends_run(run.end, state.interactions, self.bounds.steps) {
+            let (steps, over) = (self.bounds.steps, state.rounds);
+            if ends_run(run.end, state.interactions, steps, over, self.rounds) {
                 let ended = end_of(self.alloc, rules, state, run, shared, self.asked)?;
                 return Ok(ended);
             }
@@ -525,7 +645,8 @@ impl<T: Threads + Sync, C: Clock + Sync, V: Watch> Run<'_, T, C, V> {
         keeper: Keeper<D>,
     ) -> Result<(Ended, Keeper<D>), ResumeFault<D>>
         ensures ended { IfOk result (λ lived.
-            EndsOnWay D.Disk self.now.bounds self.now.asked start keeper lived.0 lived.1) }
+            EndsOnWay D.Disk self.now.bounds self.now.rounds self.now.asked start keeper
+            lived.0 lived.1) }
         ensures stopped { IfErr result (λ fault. (new : Keeper D)
             × StopsOnWay D.Disk start keeper new fault) }
     {

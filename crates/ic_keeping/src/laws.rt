@@ -1,6 +1,6 @@
 //! Laws of reductions that are kept.
 
-ghost use Rattle.std.specs.Prelude.{◌≡◌, ◌≢◌, ◌⊎◌, ◌+◌, ◌*◌, ◌-◌, ◌^◌, ◌<◌, ◌≤◌, List, [], ℕ, true, false, Ok, Err, IsNone, IsTrue, length, slice_index_or, if◌then◌else◌};
+ghost use Rattle.std.specs.Prelude.{◌≡◌, ◌≢◌, ◌⊎◌, ◌+◌, ◌*◌, ◌-◌, ◌^◌, ◌<◌, ◌≤◌, List, [], ℕ, true, false, None, Some, Ok, Err, IsNone, IsTrue, length, max, slice_index_or, if◌then◌else◌};
 ghost use Rattle.std.specs.Arc.{arc_value};
 ghost use Rattle.std.specs.Option.{option_map};
 ghost use Rattle.ic_disk.specs.Images.{Within};
@@ -9,6 +9,7 @@ ghost use Rattle.ic_term.specs.Symbol.{is_over};
 ghost use Rattle.ic_term.specs.declared.limits.TheConstants.{MAX_WIDE_NODES};
 ghost use Rattle.ic_round.specs.Naming.{HasNames};
 ghost use Rattle.ic_round.specs.Quiet.{IsQuiet};
+ghost use Rattle.ic_round.specs.Rounds.{iterate};
 ghost use Rattle.ic_rules.specs.RuleSet.{IsRuleSet};
 ghost use Rattle.ic_confluence.specs.Kinds.{Kind, Chain};
 ghost use Rattle.ic_reaching.specs.OneNet.{OneNet, SameButNext};
@@ -43,8 +44,8 @@ ghost use Rattle.ic_text.specs.declared.limits.Limits.TheVariants.{Wide};
 ghost use Rattle.ic_text.specs.declared.limits.TheConstants.{MAX_NAME};
 ghost use Rattle.ic_keeping.specs.declared.fault.KeepingFault.TheVariants as keeping;
 ghost use Rattle.ic_keeping.specs.declared.going.Ended.{Ended};
-ghost use Rattle.ic_keeping.specs.Life.{HasAsFar, HasEnded, HasLived, HasState, HoldAState, IsFirstLife, IsFoundAgain, IsLeftBy, IsLife, IsTold, KeepFails, KeepModel, KeepsOn, StopsABegin, StopsARun, StopsAnOpening, StopsAt};
-ghost use Rattle.ic_keeping.specs.Way.{AreSums, ComesPastLimits, IsAnswer, IsAsFar, IsBegun, IsFormFrom, IsFormOf, IsKeptAfter, IsOnWay, IsReachedFrom, IsStateOf};
+ghost use Rattle.ic_keeping.specs.Life.{HasAsFar, HasEnded, HasLived, HasRun, HasState, HoldAState, IsFirstLife, IsFoundAgain, IsLeftBy, IsLife, IsTold, KeepFails, KeepModel, KeepsOn, StopsABegin, StopsARun, StopsAnOpening, StopsAt};
+ghost use Rattle.ic_keeping.specs.Way.{AreAlike, AreSums, ComesPastLimits, IsAnswer, IsAsFar, IsBegun, IsFormFrom, IsFormOf, IsKeptAfter, IsOnWay, IsReachedFrom, IsStateOf};
 
 use crate::beginning::ResumeFault;
 use ic_disk::Disk;
@@ -134,8 +135,8 @@ pub fn another_life_may_follow<D: Disk>(first: &D, second: &D)
     ensures again { (s : SystemParts) (found : Kept) (k n : Keeper D)
         → IsLife D.Disk s found first.now second.now k n
         → HoldAState D.Disk s found.interactions (newest_of n) (other_of n) }
-    ensures ended { (s : SystemParts) (bounds : Bounds) (asked : Asked) (least : ℕ) (run : Ended)
-        (n : Keeper D) → HasEnded D.Disk s bounds asked least first.now second.now run n
+    ensures ended { (s : SystemParts) (bounds : Bounds) (most : ℕ) (asked : Asked) (least : ℕ)
+        (run : Ended) (n : Keeper D) → HasEnded D.Disk s bounds most asked least first.now second.now run n
         → HoldAState D.Disk s least (newest_of n) (other_of n)
         × (least ≤ run.state.interactions) }
     ensures stopped { (s : SystemParts) (found : Kept) (k n : Keeper D) (fault : ResumeFault D)
@@ -198,6 +199,11 @@ pub fn what_a_kept_state_says()
         × (k.interactions ≡ 0) × (k.ended ≡ false) × (k.millis ≡ 0) }
     ensures ended { (s : SystemParts) (k : Kept) → IsStateOf s k → k.ended ≡ true
         → (next : ℕ) × IsQuiet s.rules.rules (configuration_of k.words k.terms next) }
+    // Of one by rounds as many rounds lead there as it tells, and no fewer end quiet.
+    ensures rounds { (s : SystemParts) (k : Kept) (made : ℕ) → IsStateOf s k → k.rounds ≡ Some made
+        → ((next : ℕ) × SameButNext (iterate s.rules.rules made s.config)
+        (configuration_of k.words k.terms next))
+        × ((n : ℕ) → n < made → ¬ IsQuiet s.rules.rules (iterate s.rules.rules n s.config)) }
     // Each agent has its arguments, each equation two sides, and the names may stand in a text if there aren't too many words.
     ensures whole { (s : SystemParts) (k : Kept) → IsStateOf s k → IsWhole k.words }
     ensures counted { (s : SystemParts) (k : Kept) → IsStateOf s k
@@ -307,6 +313,8 @@ pub fn kept_states_go_on()
         → IsKeptAfter s (state_bytes k) (state_bytes next)
         → IsReachedFrom s k next × ((k.interactions < next.interactions)
         ⊎ ((k.interactions ≡ next.interactions) × (k.ended ≡ false) × (next.ended ≡ true))) }
+    ensures rounds { (s : SystemParts) (k next : Kept) → IsKept k → IsKept next
+        → IsKeptAfter s (state_bytes k) (state_bytes next) → AreAlike k.rounds next.rounds }
     ensures few { (s : SystemParts) (k next : Kept) → IsKept k → IsKept next
         → IsKeptAfter s (state_bytes k) (state_bytes next) → length next.words ≤ MAX_WIDE_NODES }
     ensures reached { (s : SystemParts) (k next : Kept) → IsReachedFrom s k next
@@ -371,4 +379,19 @@ pub fn a_kept_answer_is_told_as_any_other()
         → (is : IsAnswer s bounds Quiet k)
         → stuck_text s.rules.symbols (configuration_of k.words k.terms 0)
         ≡ stuck_text s.rules.symbols (renumbered is.answer) }
+{}
+
+/// What a run by rounds tells that has ended as a round was over: how many are over, and the net after them. At a quiet end no step is
+/// possible then, and was before each of them; else there are as many as may be, and one more is possible. So it is told of
+/// any number of lives as it is of one that isn't stopped.
+pub fn what_a_run_by_rounds_tells()
+    ensures net { (s : SystemParts) (bounds : Bounds) (most : ℕ) (asked : Asked) (k : Kept)
+        (run : Ended) (made : ℕ) → (has : HasRun s bounds most asked k run) → k.rounds ≡ Some made
+        → (run.end ≡ Quiet) ⊎ (run.end ≡ Steps) → (rounds : ℕ) × (run.rounds ≡ Some rounds)
+        × (rounds ≤ max most made) × OneNet has.answer.answer (iterate s.rules.rules rounds s.config)
+        × ((n : ℕ) → n < rounds → ¬ IsQuiet s.rules.rules (iterate s.rules.rules n s.config)) }
+    ensures steps { (s : SystemParts) (bounds : Bounds) (most : ℕ) (asked : Asked) (k : Kept)
+        (run : Ended) (made : ℕ) → (has : HasRun s bounds most asked k run) → k.rounds ≡ Some made
+        → run.end ≡ Steps → (rounds : ℕ) × (run.rounds ≡ Some rounds) × (most ≤ rounds)
+        × CanInteract s.rules.rules has.answer.answer }
 {}

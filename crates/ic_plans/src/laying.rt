@@ -39,8 +39,10 @@ fn make_agent(
         (length builder.new.registers ≡ length builder.old.registers + 1) }
 {
     let rest = operands.len() - arity;
-    let mut taken: SmallVec<u32, 4> =
-        SmallVec::from_slice(*operands.allocator(), &operands[rest..])?;
+    let mut taken: SmallVec<u32, 4> = SmallVec::from_slice(
+        *operands.allocator(),
+        &operands[rest..],
+    )?;
     taken.reverse();
     let register = builder.make(symbol, &taken)?;
     operands.truncate(rest);

@@ -10,8 +10,8 @@ mod compiling;
 mod first;
 mod flattening;
 mod generation;
-mod laying;
 pub mod laws;
+mod laying;
 mod rule;
 
 pub use compiling::compile;

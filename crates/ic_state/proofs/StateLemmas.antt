@@ -1,14 +1,16 @@
 -- The bytes of a state, read from the front.
-use Rattle.std.proofs.Common.{◌≡◌, ℕ, zero, suc, ◌*◌, ◌^◌, ◌<◌, ◌≤◌, Bool, true, false, List, [], ◌∷◌, ◌++◌, length, get_or, nat_eq, refl, sym, ap, ◌∙◌, arith}
+use Rattle.std.proofs.Common.{◌≡◌, ℕ, zero, suc, ◌*◌, ◌^◌, ◌<◌, ◌≤◌, Bool, true, false, List, [], ◌∷◌, ◌++◌, Option, None, Some, append_assoc, append-nil, length, get_or, nat_eq, refl, sym, ap, ◌∙◌, arith}
 use Rattle.std.proofs.lemmas.Grind.{get_or_default_zero}
 use Rattle.std.proofs.lemmas.List.{length-append}
 use Rattle.std.specs.List.{flat_map, AllByRecursion}
 use Rattle.ic_flat.specs.declared.word.Word.{Word}
 use Rattle.ic_state.specs.Numbers.{eight_bytes}
 use Rattle.ic_state.specs.Words.{word_bytes, IsKeptWord}
-use Rattle.ic_state.specs.State.{Kept, IsKept, ended_number, head_numbers, state_bytes}
+use Rattle.std.specs.Prelude.{IfSome}
+use Rattle.ic_state.specs.State.{Kept, IsKept, ended_number, front_length, head_numbers, plain_bytes, rounds_numbers, state_bytes}
 use Rattle.ic_state.specs.declared.form.TheConstants.{FORMAT}
-use Rattle.ic_state.proofs.NumberLemmas.{eight_bytes-injective, length-eight_bytes}
+use Rattle.ic_state.specs.declared.rounds.TheConstants.{BY_ROUNDS}
+use Rattle.ic_state.proofs.NumberLemmas.{eight_bytes-injective, fronts, length-eight_bytes}
 use Rattle.ic_state.proofs.ListLemmas.{length-spelled, same_spelled}
 use Rattle.ic_state.proofs.WordLemmas.{word_bytes-injective, length-word_bytes}
 
@@ -34,12 +36,12 @@ same_words xs ys a b = same_spelled word_bytes length-word_bytes IsKeptWord word
 abbrev after_head : Kept → List ℕ
 after_head k = flat_map eight_bytes k.by_rule ++ (flat_map word_bytes k.words ++ k.text)
 
-pub too_short : (k : Kept) (bytes : List ℕ) → length bytes < 8 * 7 → bytes ≡ state_bytes k → ⊥
+pub too_short : (k : Kept) (bytes : List ℕ) → length bytes < 8 * 7 → bytes ≡ plain_bytes k → ⊥
 too_short k bytes short is = omega (arith, short, ap length is, length-append (flat_map eight_bytes (head_numbers k)) (after_head k), length-spelled eight_bytes length-eight_bytes (head_numbers k))
 
--- What was read of the head is that of each state with these bytes.
+-- What was read of the head is that of each state that has these bytes after what is said of rounds.
 module _ (head bytes rest : List ℕ) (long : length head ≡ 7) (small : AllByRecursion IsSmall head) (read : bytes ≡ flat_map eight_bytes head ++ rest)
-    (k : Kept) (kept : IsKept k) (is : bytes ≡ state_bytes k) where
+    (k : Kept) (kept : IsKept k) (is : bytes ≡ plain_bytes k) where
   pub head_is : (head ≡ head_numbers k) × (rest ≡ after_head k)
   head_is = same_numbers head (head_numbers k) rest (after_head k) small (head_fits k kept) long (sym read ∙ is)
 
@@ -89,10 +91,129 @@ one_ended true false e = absurd (omega (arith, e))
 one_ended false true e = absurd (omega (arith, e))
 one_ended _ _ e = refl
 
+-- ---- what is said of rounds
+
+abbrev tail_numbers : Kept → List ℕ
+tail_numbers k = k.terms ∷ k.interactions ∷ ended_number k.ended ∷ length k.by_rule ∷ length k.words ∷ k.millis ∷ []
+
+plain_front : (k : Kept) → plain_bytes k ≡ eight_bytes FORMAT ++ (flat_map eight_bytes (tail_numbers k) ++ after_head k)
+plain_front k = append_assoc (eight_bytes FORMAT) (flat_map eight_bytes (tail_numbers k)) (after_head k)
+
+pub long_plain : (k : Kept) → 56 ≤ length (plain_bytes k)
+long_plain k = omega (arith, length-append (flat_map eight_bytes (head_numbers k)) (after_head k), length-spelled eight_bytes length-eight_bytes (head_numbers k))
+
+rounds_front : (made : ℕ) (plain : List ℕ) → flat_map eight_bytes (rounds_numbers (Some made)) ++ plain ≡ eight_bytes BY_ROUNDS ++ (eight_bytes made ++ plain)
+rounds_front made plain =
+    append_assoc (eight_bytes BY_ROUNDS) (eight_bytes made ++ []) plain
+    ∙ ap (λ (l : List ℕ). eight_bytes BY_ROUNDS ++ l) (ap (λ (l : List ℕ). l ++ plain) (append-nil (eight_bytes made)))
+
+-- a number and what comes after it, read from the front
+one_number : (m n : ℕ) (a b : List ℕ) → m < 2 ^ 64 → n < 2 ^ 64 → eight_bytes m ++ a ≡ eight_bytes n ++ b → (m ≡ n) × (a ≡ b)
+one_number m n a b small little e =
+    let parts = fronts (eight_bytes m) (eight_bytes n) a b (length-eight_bytes m ∙ sym (length-eight_bytes n)) e in
+    (eight_bytes-injective m n small little parts.0, parts.1)
+
+-- what a state is that says this of rounds
+said_so : (k : Kept) (o : Option ℕ) → k.rounds ≡ o → state_bytes k ≡ flat_map eight_bytes (rounds_numbers o) ++ plain_bytes k
+said_so k o e = ap (λ (r : Option ℕ). flat_map eight_bytes (rounds_numbers r) ++ plain_bytes k) e
+
+-- the first number tells whether a state is by rounds
+pub none_said : (format : ℕ) (bytes after rest : List ℕ) (k : Kept) → format < 2 ^ 64 → bytes ≡ eight_bytes format ++ after → (format ≡ BY_ROUNDS → ⊥) → bytes ++ rest ≡ state_bytes k
+    → (None ≡ k.rounds) × (bytes ++ rest ≡ plain_bytes k)
+none_said format bytes after rest k small read other is = by k.rounds refl
+  where
+    by : (o : Option ℕ) → k.rounds ≡ o → (None ≡ k.rounds) × (bytes ++ rest ≡ plain_bytes k)
+    by None e = (sym e, is ∙ said_so k None e)
+    by (Some made) e =
+        let whole = sym (append_assoc (eight_bytes format) after rest) ∙ ap (λ (l : List ℕ). l ++ rest) (sym read) ∙ is ∙ said_so k (Some made) e ∙ rounds_front made (plain_bytes k) in
+        absurd (other (one_number format BY_ROUNDS (after ++ rest) (eight_bytes made ++ plain_bytes k) small (omega arith) whole).0)
+
+some_said : (bytes after rest : List ℕ) (k : Kept) (o : Option ℕ) → k.rounds ≡ o → bytes ≡ eight_bytes BY_ROUNDS ++ after → bytes ++ rest ≡ state_bytes k
+    → (made : ℕ) × (o ≡ Some made) × (after ++ rest ≡ eight_bytes made ++ plain_bytes k)
+some_said bytes after rest k None e read is =
+    let whole = sym (append_assoc (eight_bytes BY_ROUNDS) after rest) ∙ ap (λ (l : List ℕ). l ++ rest) (sym read) ∙ is ∙ said_so k None e ∙ plain_front k in
+    absurd (omega (arith, (one_number BY_ROUNDS FORMAT (after ++ rest) (flat_map eight_bytes (tail_numbers k) ++ after_head k) (omega arith) (omega arith) whole).0))
+some_said bytes after rest k (Some made) e read is =
+    let whole = sym (append_assoc (eight_bytes BY_ROUNDS) after rest) ∙ ap (λ (l : List ℕ). l ++ rest) (sym read) ∙ is ∙ said_so k (Some made) e ∙ rounds_front made (plain_bytes k) in
+    (made, refl, (one_number BY_ROUNDS BY_ROUNDS (after ++ rest) (eight_bytes made ++ plain_bytes k) (omega arith) (omega arith) whole).1)
+
+small_made : (o : Option ℕ) (made : ℕ) → o ≡ Some made → IfSome o (λ n. n < 2 ^ 64) → made < 2 ^ 64
+small_made None made e small = cc (e)
+small_made (Some n) made e small = let same : n ≡ made = cc (e) in omega (arith, same, small)
+
+pub made_said : (format made : ℕ) (bytes after plain rest : List ℕ) (k : Kept) → IsKept k → format ≡ BY_ROUNDS → made < 2 ^ 64 → bytes ≡ eight_bytes format ++ after → after ≡ eight_bytes made ++ plain
+    → bytes ++ rest ≡ state_bytes k → (Some made ≡ k.rounds) × (plain ++ rest ≡ plain_bytes k)
+made_said format made bytes after plain rest k kept is_format small read then is =
+    let said = some_said bytes after rest k k.rounds refl (read ∙ ap (λ (n : ℕ). eight_bytes n ++ after) is_format) is in
+    let parts = one_number made said.0 (plain ++ rest) (plain_bytes k) small (small_made k.rounds said.0 said.1 kept.rounds)
+    (sym (append_assoc (eight_bytes made) plain rest) ∙ ap (λ (l : List ℕ). l ++ rest) (sym then) ∙ said.2) in
+    (ap (λ (n : ℕ). Some n) parts.0 ∙ sym said.1, parts.1)
+
+-- fewer bytes than a number has are fewer than stand before the lists
+pub short_front : (bytes : List ℕ) (o : Option ℕ) → length bytes < 8 → length bytes < front_length o
+short_front bytes None short = omega (arith, short)
+short_front bytes (Some made) short = omega (arith, short)
+
+pub short_said : (format : ℕ) (bytes after rest : List ℕ) (k : Kept) → format ≡ BY_ROUNDS → bytes ≡ eight_bytes format ++ after → length after < 8 → bytes ++ rest ≡ state_bytes k
+    → length bytes < front_length k.rounds
+short_said format bytes after rest k is_format read short is =
+    let said = some_said bytes after rest k k.rounds refl (read ∙ ap (λ (n : ℕ). eight_bytes n ++ after) is_format) is in
+    let long : length bytes < 16 = omega (arith, short, ap length read, length-append (eight_bytes format) after, length-eight_bytes format) in
+    below k.rounds long
+  where
+    below : (o : Option ℕ) → length bytes < 16 → length bytes < front_length o
+    below None low = omega (arith, low)
+    below (Some made) low = omega (arith, low)
+
+-- no state is shorter than what stands before its lists
+pub long_state : (k : Kept) → front_length k.rounds ≤ length (state_bytes k)
+long_state k = by k.rounds refl
+  where
+    by : (o : Option ℕ) → k.rounds ≡ o → front_length k.rounds ≤ length (state_bytes k)
+    by None e = omega (arith, ap front_length e, ap length (said_so k None e), long_plain k)
+    by (Some made) e = omega (
+      arith,
+      ap front_length e,
+      ap length (said_so k (Some made) e ∙ rounds_front made (plain_bytes k)),
+      length-append (eight_bytes BY_ROUNDS) (eight_bytes made ++ plain_bytes k),
+      length-append (eight_bytes made) (plain_bytes k),
+      length-eight_bytes BY_ROUNDS,
+      length-eight_bytes made,
+      long_plain k,
+    )
+
+-- what comes after what is said of rounds is short where all of it is
+pub short_plain : (o p : Option ℕ) (bytes plain : List ℕ) → o ≡ p → bytes ≡ flat_map eight_bytes (rounds_numbers o) ++ plain → length plain < 56 → length bytes < front_length p
+short_plain None p bytes plain same read short = omega (arith, ap length read, short, ap front_length same)
+short_plain (Some made) p bytes plain same read short = omega (
+  arith,
+  ap length (read ∙ rounds_front made plain),
+  length-append (eight_bytes BY_ROUNDS) (eight_bytes made ++ plain),
+  length-append (eight_bytes made) plain,
+  length-eight_bytes BY_ROUNDS,
+  length-eight_bytes made,
+  short,
+  ap front_length same,
+)
+
+one_said : (k other : Kept) → IsKept k → IsKept other → (o : Option ℕ) → k.rounds ≡ o → state_bytes k ≡ state_bytes other → (k.rounds ≡ other.rounds) × (plain_bytes k ≡ plain_bytes other)
+one_said k other kept kept_too None e same =
+    let bytes = plain_bytes k in
+    let all : bytes ++ [] ≡ state_bytes other = append-nil bytes ∙ sym (said_so k None e) ∙ same in
+    let said = none_said FORMAT bytes (flat_map eight_bytes (tail_numbers k) ++ after_head k) [] other (omega arith) (plain_front k) (λ is. omega (arith, is)) all in
+    (e ∙ said.0, sym (append-nil bytes) ∙ said.1)
+one_said k other kept kept_too (Some made) e same =
+    let bytes = state_bytes k in
+    let all : bytes ++ [] ≡ state_bytes other = append-nil bytes ∙ same in
+    let small = small_made k.rounds made e kept.rounds in
+    let said = made_said BY_ROUNDS made bytes (eight_bytes made ++ plain_bytes k) (plain_bytes k) [] other kept_too refl small (said_so k (Some made) e ∙ rounds_front made (plain_bytes k)) refl all in
+    (e ∙ said.0, sym (append-nil (plain_bytes k)) ∙ said.1)
+
 -- two states of the same bytes
 pub one_state : (k other : Kept) → IsKept k → IsKept other → state_bytes k ≡ state_bytes other → k ≡ other
-one_state k other kept kept_too e =
-    let heads = head_is (head_numbers k) (state_bytes k) (after_head k) refl (head_fits k kept) refl other kept_too e in
+one_state k other kept kept_too same =
+    let said = one_said k other kept kept_too k.rounds refl same in
+    let heads = head_is (head_numbers k) (plain_bytes k) (after_head k) refl (head_fits k kept) refl other kept_too said.1 in
     let at = λ (i : ℕ). ap (λ (l : List ℕ). get_or l i 0) heads.0 in
     let rules = same_numbers k.by_rule other.by_rule (flat_map word_bytes k.words ++ k.text) (flat_map word_bytes other.words ++ other.text) kept.by_rule kept_too.by_rule (at 4) heads.1 in
     let words = same_words k.words other.words k.text other.text kept.words kept_too.words (at 5) rules.1 in
@@ -103,7 +224,8 @@ one_state k other kept kept_too e =
     let by_rule : k.by_rule ≡ other.by_rule = rules.0 in
     let ws : k.words ≡ other.words = words.0 in
     let text : k.text ≡ other.text = words.1 in
-    λ i. record { text = text i; words = ws i; terms = terms i; interactions = interactions i; by_rule = by_rule i; ended = ended i; millis = millis i }
+    let rounds : k.rounds ≡ other.rounds = said.0 in
+    λ i. record { text = text i; words = ws i; terms = terms i; interactions = interactions i; by_rule = by_rule i; ended = ended i; millis = millis i; rounds = rounds i }
 
 -- what an index reads, whatever stands past the end
 pub read_at : (xs : List ℕ) (i x : ℕ) → x ≡ get_or xs i x → i < length xs → x ≡ get_or xs i 0

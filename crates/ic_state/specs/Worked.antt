@@ -1,5 +1,5 @@
--- Three states by hand, and their bytes field by field: the worked example of the form.
-use Rattle.std.specs.Prelude.{ℕ, List, [], ◌∷◌, ◌++◌, true, false, codes}
+-- Four states by hand, and their bytes field by field: the worked example of the form.
+use Rattle.std.specs.Prelude.{ℕ, List, [], ◌∷◌, ◌++◌, None, Some, true, false, codes}
 use Rattle.ic_flat.specs.declared.word.Word.TheVariants.{Name, Agent}
 use Rattle.ic_state.specs.State.{Kept}
 
@@ -17,6 +17,7 @@ joins_begun = record {
   by_rule = 0 ∷ [];
   ended = false;
   millis = 0;
+  rounds = None;
 }
 
 -- its state after its one interaction, and 1,027 milliseconds: `<C|>`
@@ -29,6 +30,7 @@ joins_ended = record {
   by_rule = 1 ∷ [];
   ended = true;
   millis = 1027;
+  rounds = None;
 }
 
 -- a text that has three rules and nothing else of a system but its symbols, `A` 0 and `B` 1
@@ -46,7 +48,12 @@ meets_midway = record {
   by_rule = 0 ∷ 2 ∷ 3 ∷ [];
   ended = false;
   millis = 40;
+  rounds = None;
 }
+
+-- the ended state, where its one interaction was made in one round
+abbrev pub joins_by_rounds : Kept
+joins_by_rounds = record joins_ended { rounds = Some 1 }
 
 -- a number below 256 in eight bytes
 abbrev pub in_eight : ℕ → List ℕ
@@ -85,3 +92,8 @@ midway_by_hand = format_by_hand
     ++ in_eight 0 ++ in_eight 2 ++ in_eight 3
     ++ in_eight 9 ++ agent_in_eight 1 0 ++ in_eight 9 ++ agent_in_eight 0 0
     ++ meets
+
+-- The 114 bytes: `ICROUND1`, one round, and then the bytes of the ended state.
+abbrev pub by_rounds_by_hand : List ℕ
+by_rounds_by_hand =
+    (0x49 ∷ 0x43 ∷ 0x52 ∷ 0x4f ∷ 0x55 ∷ 0x4e ∷ 0x44 ∷ 0x31 ∷ []) ++ in_eight 1 ++ ended_by_hand

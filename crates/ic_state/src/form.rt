@@ -1,13 +1,14 @@
 //! A state as bytes, and back.
 
-ghost use Rattle.std.specs.Prelude.{◌≡◌, ◌≢◌, Err, IfOk};
+ghost use Rattle.std.specs.Prelude.{◌≡◌, ◌≢◌, ◌<◌, ◌^◌, Err, IfOk, IfSome};
 ghost use Rattle.std.specs.List.{AllByRecursion};
-ghost use Rattle.ic_state.specs.State.{Kept, IsKept, ended_number, kept_by, state_bytes};
+ghost use Rattle.ic_state.specs.State.{Kept, IsKept, ended_number, kept_by, plain_bytes, state_bytes};
 ghost use Rattle.ic_state.specs.Words.{IsKeptWord};
 ghost use Rattle.ic_state.specs.declared.fault.StateFault.TheVariants.{NotAState};
 
 use crate::fault::StateFault;
 use crate::fields::{numbers_at, numbers_fit, put_numbers};
+use crate::rounds::{put_rounds, rounds_at};
 use crate::state::State;
 use crate::words::{put_words, words_at};
 use std::alloc::Global;
@@ -15,7 +16,7 @@ use std::alloc::Global;
 /// What the bytes of a state begin with: the letters `ICKEPT01`, as a number.
 pub const FORMAT: u64 = 0x4943_4b45_5054_3031;
 
-/// How many numbers stand before the lists of a state.
+/// How many numbers stand before the lists of a state, after what is said of rounds.
 pub(crate) const HEAD: u64 = 7;
 
 /// The byte form of a state, if each of its words has a number. Takes linear time.
@@ -36,6 +37,7 @@ pub fn encode(alloc: Global, state: &State) -> Result<Vec<u8>, StateFault>
     numbers_fit(&head);
     numbers_fit(&state.by_rule);
     let mut out = Vec::new(alloc);
+    put_rounds(state.rounds, &mut out)?;
     put_numbers(&head, &mut out)?;
     put_numbers(&state.by_rule, &mut out)?;
     put_words(&state.words, &mut out)?;
@@ -56,6 +58,20 @@ pub fn decode(alloc: Global, bytes: &[u8]) -> Result<State, StateFault>
     ensures refused { result ≡ Err NotAState → (kept : Kept) → IsKept kept
         → bytes.now ≢ state_bytes kept }
 {
+    let (rounds, plain) = rounds_at(bytes)?;
+    let state = decode_after(alloc, rounds, plain)?;
+    Ok(state)
+}
+
+/// The state of which these bytes are the form, after what is said of rounds.
+fn decode_after(alloc: Global, rounds: Option<u64>, bytes: &[u8]) -> Result<State, StateFault>
+    requires small { IfSome rounds (λ n. n < 2 ^ 64) }
+    ensures state { IfOk result (λ state. bytes.now ≡ plain_bytes (kept_by state)) }
+    ensures rounds { IfOk result (λ state. state.rounds ≡ rounds) }
+    ensures sound { IfOk result (λ state. IsKept (kept_by state)) }
+    ensures refused { result ≡ Err NotAState → (kept : Kept) → IsKept kept
+        → bytes.now ≢ plain_bytes kept }
+{
     let (head, rest) = numbers_at(alloc, HEAD, bytes)?;
     if head[0] != FORMAT || head[3] > 1 {
         return Err(StateFault::NotAState);
@@ -71,5 +87,6 @@ pub fn decode(alloc: Global, bytes: &[u8]) -> Result<State, StateFault>
         by_rule,
         ended: head[3] == 1,
         millis: head[6],
+        rounds,
     })
 }

@@ -9,10 +9,12 @@ mod fields;
 mod form;
 mod front;
 pub mod laws;
+mod rounds;
 mod state;
 mod words;
 
 pub use fault::StateFault;
 pub use form::{FORMAT, decode, encode};
 pub use front::head_of;
+pub use rounds::BY_ROUNDS;
 pub use state::{State, StateHead};

@@ -19,6 +19,8 @@ pub struct State {
     pub ended: bool,
     /// For how many milliseconds it has gone on.
     pub millis: u64,
+    /// How many rounds are over, where it is reduced by rounds.
+    pub rounds: Option<u64>,
 }
 
 /// What the first numbers of a state say.
@@ -34,4 +36,6 @@ pub struct StateHead {
     pub words: u64,
     /// For how many milliseconds it has gone on.
     pub millis: u64,
+    /// How many rounds are over, where it is reduced by rounds.
+    pub rounds: Option<u64>,
 }

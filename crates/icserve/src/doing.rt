@@ -11,9 +11,9 @@ use crate::{
 };
 use ic_args::table::{
     CHECKED, DISK, DRAWN, EVERY, EXPLAIN, FIGURES, FILE, GROUP, HELPERS, KEEP, LIMITS, LINES,
-    MAX_ROUNDS, MAX_STEPS, NAMES, NODES, ONE_FILE, OVERWRITE, PARTIAL, PLAIN, PROFILE, QUIET,
-    REDUCERS, REPORT, RESUME, RICH, ROUNDS, RULES_TOO, RUNNERS, SCRIPT, SCRIPTS, SECONDS, SPAN,
-    STATS, STEPS, STRICT, SUMS, TABLE, TAKEN, TOPIC, TRACED, TURNS, WAIT, WORKERS, Word, table,
+    MAX_ROUNDS, MAX_STEPS, NAMES, NODES, ONE_FILE, OVERWRITE, PARTIAL, PLAIN, QUIET, REDUCERS,
+    REPORT, RESUME, RICH, ROUNDS, RULES_TOO, RUNNERS, SCRIPT, SCRIPTS, SECONDS, STATS, STEPS,
+    STRICT, SUMS, TABLE, TAKEN, TOPIC, TRACED, TURNS, WAIT, WORKERS, Word, table,
 };
 use ic_args::{
     FiguresFormat, Place, ReportFormat, TextLimits, TraceFormat, Values, WordsFault, help_of,
@@ -203,14 +203,14 @@ fn reduce<T: Threads + Wait + Sync>(
     doing: &Doing<'_, '_, T>,
     told: &mut Vec<u8>,
 ) -> Result<(), Failure> {
-    if let Some(rounds) = doing.values.number_met(&ROUNDS) {
-        return reduce_by_rounds(doing, rounds, told);
-    }
     if let Some(path) = doing.values.text(&KEEP) {
         return reduce_kept(doing, path, true, told);
     }
-    match doing.values.text(&RESUME) {
-        Some(path) => reduce_kept(doing, path, false, told),
+    if let Some(path) = doing.values.text(&RESUME) {
+        return reduce_kept(doing, path, false, told);
+    }
+    match doing.values.number_met(&ROUNDS) {
+        Some(rounds) => reduce_by_rounds(doing, rounds, told),
         None => reduce_in_place(doing, told),
     }
 }
@@ -255,10 +255,7 @@ fn reduce_in_place<T: Threads + Sync>(
     let bounds = bounds_of(doing.values);
     let threads = threads_for(doing.threads, said_of(doing.values), bounds.steps);
     let wanted = wanted_of(doing.values, Policy::of(threads));
-    let profiled = Profiled {
-        has_span: doing.values.flag(&SPAN),
-        path: doing.values.text(&PROFILE),
-    };
+    let profiled = Profiled::of(doing.values);
     let limits = limits_of(doing.values);
     let mut input = open_input(doing, told)?;
     let reduced = reducing::reduce(
@@ -287,6 +284,8 @@ fn reduce_kept<T: Threads + Sync>(
         begins,
         from_one: doing.values.flag(&ONE_FILE),
         seconds: doing.values.number(&SECONDS),
+        rounds: doing.values.number_met(&ROUNDS),
+        has_steps: doing.values.number_met(&STEPS).is_some(),
     };
     let bounds = bounds_of(doing.values);
     let threads = threads_for(doing.threads, said_of(doing.values), bounds.steps);
@@ -331,7 +330,7 @@ fn wanted_of(values: &Values, policy: Policy) -> Wanted {
     Wanted {
         asked: asked_of(values.flag(&QUIET), values.flag(&PARTIAL)),
         has_rules: values.flag(&RULES_TOO),
-        figures: if values.flag(&STATS) || values.flag(&SPAN) {
+        figures: if values.flag(&STATS) || Profiled::of(values).has_span {
             Some(format)
         } else {
             None

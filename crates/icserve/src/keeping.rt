@@ -5,6 +5,7 @@ use crate::reducing::{Wanted, put_system, tell_end};
 use crate::renewing::{Paths, renew_lost, renew_newest};
 use crate::unbegun::{check_unbegun, empty};
 use crate::{NotedDisk, open_disk, open_disk_as};
+use ic_args::table::MAX_ROUNDS;
 use ic_causes::{Cause, FileCall, NotedOutput, Notes, Reason, Target, shown_path};
 use ic_diagnostics::{Kind, refused_within};
 use ic_disk::Disk;
@@ -16,6 +17,7 @@ use ic_kept::Keeper;
 use ic_progress::Watching;
 use ic_streams::{StreamFault, read_text_within};
 use ic_text::Limits;
+use ic_workers::Policy;
 use std::alloc::AllocError;
 use std::fs::metadata;
 use std::io::{self, ErrorKind, Read};
@@ -34,6 +36,10 @@ pub(crate) struct KeptIn<'a> {
     pub(crate) from_one: bool,
     /// About how many seconds are between two keeps.
     pub(crate) seconds: u64,
+    /// How many rounds are made at most, where that is said.
+    pub(crate) rounds: Option<u64>,
+    /// Whether it is said how many interactions are made at most.
+    pub(crate) has_steps: bool,
 }
 
 /// Reduces a system in place, keeps in two files what is reached, and prints it at the end, as far as that is wanted.
@@ -60,9 +66,10 @@ pub(crate) fn reduce<T: Threads + Sync, R: Read>(
         }
         lived => lived?,
     };
+    let by_rounds = ended.rounds.is_some();
     let done = tell(rt, ended, bounds, wanted, input.wording(), notes);
     if matches!(done, Err(Failure::Overgrown(_, _))) {
-        let _ = tell_kept(rt, kept.path, told);
+        let _ = tell_kept(rt, kept.path, by_rounds, told);
     }
     done
 }
@@ -88,7 +95,10 @@ fn live_in<'a, T: Threads + Sync, R: Read>(
 ) -> Result<(Ended, Keeper<NotedDisk<'a>>), Failure> {
     let (from, first, second) = open_kept(rt, kept, input, notes, told)?;
     let pace = Pace::new(kept.seconds.saturating_mul(1_000));
-    live_over(rt, threads, from, first, second, bounds, pace, wanted)
+    let rounds = kept.rounds.unwrap_or(MAX_ROUNDS);
+    live_over(
+        rt, threads, from, first, second, bounds, rounds, pace, wanted,
+    )
 }
 
 /// The disks in the two files: as they are, or empty, with what the text on this input begins with.
@@ -100,18 +110,30 @@ fn open_kept<'a, R: Read>(
     told: &mut Vec<u8>,
 ) -> Result<(Option<Start>, NotedDisk<'a>, NotedDisk<'a>), Failure> {
     if kept.begins {
-        let begun = read_begun(rt, Limits::Wide, input, told).map_err(Failure::Stream)?;
+        let by_rounds = kept.rounds.is_some();
+        let begun = read_begun(rt, Limits::Wide, by_rounds, input, told).map_err(Failure::Stream)?;
         let (first, second) = make_both(rt, kept.path, notes, told)?;
         return Ok((Some(begun), first, second));
     }
-    let (first, second) = open_both(rt, kept.path, notes, told)?;
+    let (first, second) = open_both(rt, kept, notes, told)?;
     Ok((None, first, second))
 }
 
-/// Tells of a net that is kept in the file of this path and has too many names and agents.
-fn tell_kept(rt: &HostRuntime, path: &str, told: &mut Vec<u8>) -> Result<(), AllocError> {
+/// Tells what is kept in the file of this path, where a net has too many names and agents: this net, or by rounds an earlier one.
+fn tell_kept(
+    rt: &HostRuntime,
+    path: &str,
+    by_rounds: bool,
+    told: &mut Vec<u8>,
+) -> Result<(), AllocError> {
     let path = shown_path(rt.alloc(), path.as_bytes())?;
-    told.extend_from_slice(b"the net is kept: `icserve reduce --resume ")?;
+    let what = if by_rounds {
+        "the last keep stands"
+    } else {
+        "the net is kept"
+    };
+    told.extend_from_slice(what.as_bytes())?;
+    told.extend_from_slice(b": `icserve reduce --resume ")?;
     told.extend_from_slice(&path)?;
     told.extend_from_slice(b"` goes on with it, given a greater --nodes\n")
 }
@@ -125,6 +147,7 @@ fn live_over<D: Disk + Drop, T: Threads + Sync>(
     first: D,
     second: D,
     bounds: Bounds,
+    rounds: u64,
     pace: Pace,
     wanted: Wanted,
 ) -> Result<(Ended, Keeper<D>), Failure> {
@@ -135,6 +158,7 @@ fn live_over<D: Disk + Drop, T: Threads + Sync>(
         alloc: rt.alloc(),
         policy: wanted.policy,
         bounds,
+        rounds,
         pace,
         asked: wanted.asked,
         watch: &watching,
@@ -154,11 +178,12 @@ fn live_over<D: Disk + Drop, T: Threads + Sync>(
 fn read_begun<R: Read>(
     rt: &HostRuntime,
     limits: Limits,
+    by_rounds: bool,
     input: &mut R,
     told: &mut Vec<u8>,
 ) -> Result<Start, StreamFault> {
     let text = read_text_within(rt.alloc(), limits, input)?;
-    match begun(rt.alloc(), &text) {
+    match begun(rt.alloc(), &text, by_rounds) {
         Ok(begun) => Ok(begun),
         Err(misread) => Err(refused_within(rt.alloc(), limits, Kind::System, &text, misread, told)),
     }
@@ -208,18 +233,24 @@ fn is_missing(cause: Option<Cause>) -> bool {
     }
 }
 
-/// The disks in the two files of a path, unless their first bytes tell that no reduction goes on with them.
+/// The disks in the two files of a path, unless their first bytes tell that no reduction goes on with them, or one in another order
+/// than is asked for.
 fn open_both<'a>(
     rt: &HostRuntime,
-    path: &str,
+    kept: KeptIn<'_>,
     notes: &'a Notes,
     told: &mut Vec<u8>,
 ) -> Result<(NotedDisk<'a>, NotedDisk<'a>), Failure> {
+    let path = kept.path;
     let first = open_disk(rt, path, false, notes)?;
     check_apart(rt, path, notes, told)?;
     let second = open_second(rt, path, false, notes)?;
-    check_fronts(rt, path, second_of(rt, path)?.as_str(), notes).map_err(Failure::Kept)?;
-    Ok((first, second))
+    let order = check_fronts(rt, path, second_of(rt, path)?.as_str(), notes);
+    match order.map_err(Failure::Kept)? {
+        Some(true) if kept.has_steps => Err(Failure::OtherOrder(true)),
+        Some(false) if kept.rounds.is_some() => Err(Failure::OtherOrder(false)),
+        _ => Ok((first, second)),
+    }
 }
 
 /// Refuses a second file that is the first one by another name: whoever has the one open has the other locked.
@@ -294,6 +325,7 @@ fn tell(
         shared,
         rules,
         state,
+        rounds,
         line,
         stuck,
         circle,
@@ -318,5 +350,21 @@ fn tell(
         stuck,
         circle,
     };
-    tell_end(rt, &outcome, None, time, wanted, bounds.nodes)
+    tell_end(
+        rt,
+        &outcome,
+        rounds,
+        time,
+        by_one(wanted, rounds),
+        bounds.nodes,
+    )
+}
+
+/// By rounds a net is reduced by one thread.
+fn by_one(wanted: Wanted, rounds: Option<u64>) -> Wanted {
+    let mut told = wanted;
+    if rounds.is_some() {
+        told.policy = Policy::of(1);
+    }
+    told
 }

@@ -21,8 +21,11 @@ use std::io::{self, ErrorKind, Read};
 /// How many bytes the first numbers of a state have.
 const NUMBERS: u64 = 56;
 
+/// How many more they have of one that goes by rounds.
+const ROUNDS: u64 = 16;
+
 /// How many first bytes of a file are looked at: its head, and the first numbers of its state.
-const FRONT: u64 = HEAD + NUMBERS;
+const FRONT: u64 = HEAD + ROUNDS + NUMBERS;
 
 /// The first bytes of a file, and how many bytes it has.
 #[derive(Drop)]
@@ -132,22 +135,32 @@ fn opening_of(rt: &HostRuntime, file: &HostFile<'_>) -> io::Result<Opening> {
 }
 
 /// Refuses two files of which no other process has one open, if their first bytes tell that no reduction goes on with them: one
-/// is another file, over which a keep would write, or no state stands in the newest. The rest of them isn't read.
+/// is another file, over which a keep would write, or no state stands in the newest. The rest of them isn't read. Tells whether
+/// the newest goes by rounds.
 pub(crate) fn check_fronts(
     rt: &HostRuntime,
     path: &str,
     second: &str,
     notes: &Notes,
-) -> Result<(), KeepingFault> {
+) -> Result<Option<bool>, KeepingFault> {
     let first = see_at(rt, path, Target::File, notes)?;
     let second = see_at(rt, second, Target::Second, notes)?;
     if is_another(first) || is_another(second) {
         return Err(KeepingFault::Open(OpenCause::Damaged));
     }
     match newest_of(first, second) {
-        Newest::First if has_no_state(first) => Err(KeepingFault::Unsound),
-        Newest::Second if has_no_state(second) => Err(KeepingFault::Unsound),
-        _ => Ok(()),
+        Newest::First => order_of(first),
+        Newest::Second => order_of(second),
+        _ => Ok(None),
+    }
+}
+
+/// Whether the state of a file that has a head goes by rounds, if it has one.
+fn order_of(seen: Seen) -> Result<Option<bool>, KeepingFault> {
+    match seen {
+        Seen::NoState(_) => Err(KeepingFault::Unsound),
+        Seen::State(_, head) => Ok(Some(head.rounds.is_some())),
+        _ => Ok(None),
     }
 }
 
@@ -322,8 +335,12 @@ fn see(rt: &HostRuntime, opening: &Opening) -> Result<Seen, AllocError> {
 
 /// Whether there is room for so many counts and words in a state of this length.
 fn fits(front: Front, head: StateHead) -> bool {
+    let first = match head.rounds {
+        Some(_) => ROUNDS + NUMBERS,
+        None => NUMBERS,
+    };
     let numbers = head.rules.saturating_add(head.words).saturating_mul(8);
-    numbers.saturating_add(NUMBERS) <= front.size
+    numbers.saturating_add(first) <= front.size
 }
 
 /// The line of what is seen of a file.
@@ -378,9 +395,13 @@ fn head_words(rt: &HostRuntime, head: StateHead) -> Result<String, AllocError> {
     let ended = if head.ended { "ended" } else { "not ended" };
     let (interactions, words) = (head.interactions, head.words);
     let (rules, millis) = (head.rules, head.millis);
-    format!(in rt.alloc();
+    let words = format!(in rt.alloc();
         "{ended}, interactions {interactions}, words {words}, rules {rules}, milliseconds {millis}"
-    )
+    )?;
+    match head.rounds {
+        Some(rounds) => format!(in rt.alloc(); "{words}, rounds {rounds}"),
+        None => Ok(words),
+    }
 }
 
 fn object_of(rt: &HostRuntime, place: u32, seen: Seen) -> Result<String, AllocError> {
@@ -418,19 +439,18 @@ fn front_members(rt: &HostRuntime, place: u32, front: Front) -> Result<String, A
 fn head_members(rt: &HostRuntime, head: StateHead) -> Result<String, AllocError> {
     let (interactions, words, ended) = (head.interactions, head.words, head.ended);
     let (rules, millis) = (head.rules, head.millis);
-    format!(in rt.alloc();
+    let members = format!(in rt.alloc();
         "\"ended\":{ended},\"interactions\":{interactions},\"words\":{words},\"rules\":{rules},\"milliseconds\":{millis}"
-    )
+    )?;
+    match head.rounds {
+        Some(rounds) => format!(in rt.alloc(); "{members},\"rounds\":{rounds}"),
+        None => Ok(members),
+    }
 }
 
 /// Whether a file is another one.
 fn is_another(seen: Seen) -> bool {
     matches!(seen, Seen::Another(_))
-}
-
-/// Whether no state stands in a file that has a head.
-fn has_no_state(seen: Seen) -> bool {
-    matches!(seen, Seen::NoState(_))
 }
 
 /// Whether a file has no head of a file that keeps a reduction.

@@ -1,5 +1,7 @@
 //! The profile of a reduction in any order: how many pairs each round would have fired, in a file.
 
+use ic_args::Values;
+use ic_args::table::{PROFILE, SPAN};
 use ic_by_rounds::{profile_picture, profile_table};
 use ic_causes::{NotedFiles, Notes, Target, cause_line};
 use ic_exits::Failure;
@@ -18,7 +20,15 @@ pub(crate) struct Profiled<'a> {
     pub(crate) path: Option<&'a str>,
 }
 
-impl Profiled<'_> {
+impl<'a> Profiled<'a> {
+    /// What the options ask for.
+    pub(crate) fn of(values: &Values<'a>) -> Profiled<'a> {
+        Profiled {
+            has_span: values.flag(&SPAN),
+            path: values.text(&PROFILE),
+        }
+    }
+
     /// Whether anything is to be known of them.
     pub(crate) fn is_wanted(&self) -> bool {
         self.has_span || self.path.is_some()

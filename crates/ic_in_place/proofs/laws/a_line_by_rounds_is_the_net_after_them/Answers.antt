@@ -9,6 +9,7 @@ use Rattle.ic_text.specs.declared.fault.TextFault.{TextFault}
 use Rattle.ic_text.specs.declared.limits.TheConstants.{MAX_NAME}
 use Rattle.ic_in_place.proofs.LowNames.{low_name}
 use Rattle.ic_in_place.proofs.LineByRounds.{LineLaws, printed, net, same}
+use Rattle.ic_in_place.proofs.MadeRounds.{made_of}
 use Rattle.ic_in_place.proofs.laws.a_line_by_rounds_is_the_net_after_them.Goals as goal
 
 one_system : (s t : SystemParts) → ◌≡◌ {A = Result SystemParts TextFault} (Ok s) (Ok t) → s ≡ t
@@ -29,9 +30,9 @@ returns-clause-net c =
     subst (λ (t : SystemParts). (d : Configuration) × (line ≡ line_of t.rules.symbols (renumbered d)) × OneNet d (iterate t.rules.rules reached.rounds t.config)
     × (1 ≤ reached.rounds → SameButNext d (iterate t.rules.rules reached.rounds t.config))) system (
       answer,
-      printed laws together limits most asked input line reached is either some,
-      net laws together limits most asked input line reached is either some,
-      same laws together limits most asked input line reached is either some,
+      printed limits most asked input line reached is either some,
+      net laws together is.system most reached.rounds is.ends.answer reached.outcome.end reached.outcome.interactions reached.outcome.by_rule.items reached.outcome.name_steps (made_of limits most asked input line reached is) either,
+      same laws together is.system most reached.rounds is.ends.answer reached.outcome.end reached.outcome.interactions reached.outcome.by_rule.items reached.outcome.name_steps (made_of limits most asked input line reached is) either,
     )
 
 pub returns-clause-written : goal.returns-clause-written
@@ -51,8 +52,8 @@ returns-clause-written c =
     let low : (x : ℕ) → occurrences x (configuration_names answer) ≡ 1 → x ≤ MAX_NAME =
     λ x once. low_name limits input is.system is.reads x (let here = (free x).1 once in omega (arith, here)) in
     let numbered : SameButNext answer written = c.a_renumbered_net_is_the_same_net.ensures.same answer low in
-    let net : SameButNext answer (iterate is.system.rules.rules reached.rounds is.system.config) = same laws together limits most asked input line reached is either some one in
+    let net : SameButNext answer (iterate is.system.rules.rules reached.rounds is.system.config) = same laws together is.system most reached.rounds is.ends.answer reached.outcome.end reached.outcome.interactions reached.outcome.by_rule.items reached.outcome.name_steps (made_of limits most asked input line reached is) either one in
     let turned = c.where_names_begin_is_no_matter.ensures.other_way answer (iterate is.system.rules.rules reached.rounds is.system.config) net in
     let all = c.where_names_begin_is_no_matter.ensures.through (iterate is.system.rules.rules reached.rounds is.system.config) answer written turned numbered in
     subst (λ (t : SystemParts). (d : Configuration) × (line ≡ line_of t.rules.symbols d) × SameButNext (iterate t.rules.rules reached.rounds t.config) d) system
-    (written, printed laws together limits most asked input line reached is either some, all)
+    (written, printed limits most asked input line reached is either some, all)

@@ -28,13 +28,15 @@ returns-clause-made g c =
     let low : run.new.machine.interactions < 2 ^ 64 = search rules in
     let P : List ℕ → List RoundOver → Type 0 = λ ns told. g.S.Rows.tells c.args.system.now ns c.args.rows.now run.new.rows
     (g.W.Write.contents c.args.writer.now) (g.W.Write.contents run.new.writer) told in
-    rounded_so c.what_a_machine_holds_after_rounds.ensures c.args.system.now c.args.bounds.rounds c.in_ok-end.rounds c.args.bounds.nodes numbers p first.given.items
+    let ended = c.in_ok-end.ensures.ended in
+    let rounded = rounded_so c.what_a_machine_holds_after_rounds.ensures c.args.system.now ended.0 c.in_ok-end.rounds c.args.bounds.nodes numbers p first.given.items
     begins.plan begins.operands pairs c.in_ok-machine.machine run.new.machine c.in_ok-end.end c.systems_are_sound.ensures
     c.requires.arities c.requires.sound c.requires.plans begins.start begins.stands made.given
     (subst (λ (a : List ℕ). LinksPairsFirst a (length first.given.items) begins.plan pairs) (sym c.requires.arities) made.begins.1)
-    begun c.in_ok-end.ensures.ended.0 c.what_a_machine_holds.ensures.pairs by_rule summed c.requires.numbers low P
-    (c.in_ok-end.ensures.ended.1 c.args.system.now numbers c.args.rows.now (g.W.Write.contents c.args.writer.now)
-    (c.in_ok-begin.ensures.none (g.W.Write.contents c.args.writer.now)))
+    begun ended.2 c.what_a_machine_holds.ensures.pairs by_rule summed c.requires.numbers low P
+    (ended.3 c.args.system.now numbers c.args.rows.now (g.W.Write.contents c.args.writer.now)
+    (c.in_ok-begin.ensures.none (g.W.Write.contents c.args.writer.now))) in
+    (ended.0, ended.1, rounded.0, rounded.1)
 
 pub run_by_rounds-requires-clause-within : goal.run_by_rounds-requires-clause-within
 run_by_rounds-requires-clause-within g c =

@@ -1,4 +1,4 @@
-use Rattle.std.proofs.Common.{◌≡◌, ℕ, ◌+◌, ◌∙◌, List, [], Option, length, arith, subst, sym}
+use Rattle.std.proofs.Common.{◌≡◌, ℕ, ◌+◌, ◌∙◌, inl, inr, List, [], Option, length, refl, arith, subst, sym}
 use Rattle.ic_machine.specs.declared.generation.Generation.{Generation}
 use Rattle.ic_rules.specs.System.{SystemParts}
 use Rattle.ic_in_place.specs.Told.{RoundOver, IsBetween}
@@ -35,18 +35,49 @@ returns-then-not-has_active-clause-ended g c =
     b.told c.loop-round.round _ (length b.made) (length a.ran.fired) c.take_all-broken.new.machine
     (c.in_ok-over.ensures.told s numbers first before b.told (c.loop-round.invariant.tells s numbers first before none) (omega (arith, b.count, many)))
     b.count (omega (arith, a.ran.counted, c.interactions-before.ensures, c.interactions-after.ensures)) in
-    ends_quiet c.args.program.now c.args.pairs c.args.rounds c.loop-round.round c.loop-round.generation c.take_all-broken.new.generation
+    let ends = ends_quiet c.args.program.now c.args.pairs c.args.rounds c.loop-round.round c.loop-round.generation c.take_all-broken.new.generation
     c.args.machine.now c.loop-round.machine c.take_all-broken.new.machine b a
-    c.in_default.ensures.over (omega (arith, c.loop-round-test.true)) between (c.has_active.ensures.none (cc c.if-not-has_active.true)) P told
+    c.in_default.ensures.over (omega (arith, c.loop-round-test.true)) between (c.has_active.ensures.none (cc c.if-not-has_active.true)) P told in
+    (c.args.rounds, inl refl, ends.0, ends.1)
 
 pub returns-in-Some-clause-ended : goal.returns-in-Some-clause-ended
 returns-in-Some-clause-ended g c =
     let P : List RoundOver → Type 0 = λ told. (s : SystemParts) (numbers : List ℕ) (first : _) (before : Option (List ℕ))
     → g.S.Rows.tells s numbers first c.args.rows.now before (g.W.Write.contents c.args.writer.now) []
     → g.S.Rows.tells s numbers first c.loop-round.rows before (g.W.Write.contents c.loop-round.writer) told in
-    ends_within c.args.program.now c.args.pairs c.args.rounds c.loop-round.round c.in-Some.end c.loop-round.generation c.take_all-broken.new.generation
+    let ends = ends_within c.args.program.now c.args.pairs c.args.rounds c.loop-round.round c.in-Some.end c.loop-round.generation c.take_all-broken.new.generation
     c.args.machine.now c.loop-round.machine c.take_all-broken.new.machine c.loop-round.invariant.begins c.take_all-broken.ensures.advances
-    (omega (arith, c.loop-round-test.true)) c.in-Some.ensures.broken.0 c.in-Some.ensures.broken.1 P c.loop-round.invariant.tells
+    (omega (arith, c.loop-round-test.true)) c.in-Some.ensures.broken.0 c.in-Some.ensures.broken.1 P c.loop-round.invariant.tells in
+    (c.args.rounds, inl refl, ends.0, ends.1)
+
+pub returns-then-is_enough-clause-ended : goal.returns-then-is_enough-clause-ended
+returns-then-is_enough-clause-ended g c =
+    let b = c.loop-round.invariant.begins in
+    let a = c.take_all-broken.ensures.advances in
+    let between : IsBetween c.take_all-broken.new.machine =
+    record { pending = c.what_a_machine_holds.ensures.pairs; aside = c.what_a_machine_holds.ensures.aside; places = c.what_a_machine_holds.ensures.places } in
+    let P : List RoundOver → Type 0 = λ told. (s : SystemParts) (numbers : List ℕ) (first : _) (before : Option (List ℕ))
+    → g.S.Rows.tells s numbers first c.args.rows.now before (g.W.Write.contents c.args.writer.now) []
+    → g.S.Rows.tells s numbers first c.over.new.self before (g.W.Write.contents c.over.new.writer) told in
+    let many = as_many_told c.args.program.now c.args.machine.now c.args.pairs b.made b.told b.are_told in
+    let told : P (told_next b.told (length b.made) (length a.ran.fired) c.take_all-broken.new.machine) =
+    λ s numbers first before none. told_over
+    (λ l. g.S.Rows.tells s numbers first c.over.new.self before (g.W.Write.contents c.over.new.writer) l)
+    b.told c.loop-round.round _ (length b.made) (length a.ran.fired) c.take_all-broken.new.machine
+    (c.in_ok-over.ensures.told s numbers first before b.told (c.loop-round.invariant.tells s numbers first before none) (omega (arith, b.count, many)))
+    b.count (omega (arith, a.ran.counted, c.interactions-before.ensures, c.interactions-after.ensures)) in
+    let next = next_begins c.args.program.now c.args.pairs c.loop-round.round c.loop-round.generation c.take_all-broken.new.generation
+    c.args.machine.now c.loop-round.machine c.take_all-broken.new.machine b a
+    c.in_default.ensures.over between (c.has_active.ensures.some (cc c.if-not-has_active.false)) P told in
+    let enough = c.is_enough.ensures c.if-is_enough.true in
+    let end = c.end_of_all.ensures in
+    let ends = ends_all c.args.program.now c.args.pairs (c.loop-round.round + 1) c.end_of_all.result (record { end = length c.take_all-broken.new.machine.pending }) c.args.machine.now
+    c.take_all-broken.new.machine c.end_of_all.new.machine next.0 end.ran.0 end.ran.1 end.quiet end.more P next.1 in (
+      c.loop-round.round + 1,
+      inr (omega arith, omega (arith, c.loop-round-test.true), (enough.0, enough.1, omega (arith, enough.2, c.interactions-after.ensures, end.ran.0.counted))),
+      ends.0,
+      ends.1,
+    )
 
 pub loop-round-preserved : goal.loop-round-preserved
 loop-round-preserved g c =
@@ -84,6 +115,7 @@ returns-clause-ended g c =
     → g.S.Rows.tells s numbers first c.loop-round.rows before (g.W.Write.contents c.loop-round.writer) told in
     let begins = subst (λ n. (b : RoundBegins c.args.program.now c.args.pairs n c.loop-round.generation c.args.machine.now c.loop-round.machine) × P b.told) all
     (c.loop-round.invariant.begins, c.loop-round.invariant.tells) in
-    ends_all c.args.program.now c.args.pairs c.args.rounds c.end_of_all.result c.loop-round.generation c.args.machine.now c.loop-round.machine
-    c.end_of_all.new.machine begins.0
-    c.end_of_all.ensures.ran.0 c.end_of_all.ensures.ran.1 c.end_of_all.ensures.quiet c.end_of_all.ensures.more P begins.1
+    let ends = ends_all c.args.program.now c.args.pairs c.args.rounds c.end_of_all-2.result c.loop-round.generation c.args.machine.now c.loop-round.machine
+    c.end_of_all-2.new.machine begins.0
+    c.end_of_all-2.ensures.ran.0 c.end_of_all-2.ensures.ran.1 c.end_of_all-2.ensures.quiet c.end_of_all-2.ensures.more P begins.1 in
+    (c.args.rounds, inl refl, ends.0, ends.1)

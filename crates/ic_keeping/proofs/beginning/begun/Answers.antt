@@ -1,4 +1,4 @@
-use Rattle.std.proofs.Common.{◌≡◌, ◌∙◌, ℕ, ◌+◌, ◌≤◌, List, length, refl, sym, ap, subst}
+use Rattle.std.proofs.Common.{◌≡◌, ◌∙◌, ℕ, ◌+◌, ◌<◌, ◌≤◌, List, Bool, true, false, if◌then◌else◌, Option, None, Some, length, refl, sym, ap, subst, arith}
 use Rattle.std.proofs.lemmas.Result.{err_from_is_err_and}
 use Rattle.ic_term.specs.Configuration.{Configuration, configuration_names, one_above}
 use Rattle.ic_term.specs.Symbol.{is_over}
@@ -7,10 +7,19 @@ use Rattle.ic_flat.specs.Flat.{configuration_of}
 use Rattle.ic_flat.specs.lemmas.FlatLaws.{names-configuration_of, over-configuration_of}
 use Rattle.ic_text.specs.declared.limits.Limits.TheVariants.{Wide}
 use Rattle.ic_text.specs.declared.limits.TheConstants.{MAX_NAME}
-use Rattle.ic_keeping.specs.Way.{IsOnWay}
+use Rattle.ic_rules.specs.System.{SystemParts}
+use Rattle.ic_reaching.specs.OneNet.{SameButNext}
+use Rattle.ic_keeping.specs.Way.{IsAfterRounds, IsOnWay}
 use Rattle.ic_keeping.proofs.LowNames.{low_begun}
 use Rattle.ic_keeping.proofs.WayLemmas.{begun_on_way, words_numbered}
 use Rattle.ic_keeping.proofs.beginning.begun.Goals as goal
+
+-- no round is over
+begun_rounds : ((c : Configuration) (next : ℕ) → SameButNext c (record c { next = next })) → (s : SystemParts) (there : Configuration) → there ≡ s.config → (b : Bool)
+    → IsAfterRounds s (if b then Some 0 else None) there
+begun_rounds next s there config true =
+    record { net = subst (λ (d : Configuration). SameButNext s.config d) (sym config) (next s.config s.config.next); needed = λ n low. absurd (omega (arith, low)) }
+begun_rounds next s there config false = tt
 
 pub returns-clause-read : goal.returns-clause-read
 returns-clause-read c =
@@ -40,6 +49,8 @@ returns-clause-read c =
           whole = c.into_parts-words.ensures.flat.whole;
           equations = c.into_parts-words.result.2;
           counted = c.into_parts-words.ensures.flat.counted;
+          rounds = subst (λ (o : Option ℕ). IsAfterRounds s o (configuration_of words terms s.config.next)) (sym c.rounds_begun.ensures)
+              (begun_rounds c.where_names_begin_is_no_matter.ensures.next s (configuration_of words terms s.config.next) config c.args.by_rounds);
         };
         config = config;
         none = refl;

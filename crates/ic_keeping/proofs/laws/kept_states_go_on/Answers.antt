@@ -1,7 +1,7 @@
 use Rattle.std.proofs.Common.{◌≡◌, ◌≤◌, length, sym, subst, arith}
 use Rattle.ic_state.specs.State.{Kept}
 use Rattle.ic_term.specs.declared.limits.TheConstants.{MAX_WIDE_NODES}
-use Rattle.ic_keeping.specs.Way.{GoesFurther, IsReachedFrom}
+use Rattle.ic_keeping.specs.Way.{AreAlike, GoesFurther, IsReachedFrom}
 use Rattle.ic_keeping.proofs.laws.kept_states_go_on.Goals as goal
 
 pub returns-clause-after : goal.returns-clause-after
@@ -11,6 +11,12 @@ returns-clause-after c = λ s k next k_kept next_kept is.
       subst (λ (x : Kept). IsReachedFrom s x next) (sym one) (subst (λ (x : Kept). IsReachedFrom s is.before x) (sym other) is.from),
       subst (λ (x : Kept). GoesFurther x.interactions x.ended next) (sym one) (subst (λ (x : Kept). GoesFurther is.before.interactions is.before.ended x) (sym other) is.further),
     )
+
+pub returns-clause-rounds : goal.returns-clause-rounds
+returns-clause-rounds c = λ s k next k_kept next_kept is.
+    let one : k ≡ is.before = c.each_state_has_its_own_bytes.ensures k is.before k_kept is.was_kept is.old_is in
+    let other : next ≡ is.after = c.each_state_has_its_own_bytes.ensures next is.after next_kept is.is_kept is.new_is in
+    subst (λ (x : Kept). AreAlike x.rounds next.rounds) (sym one) (subst (λ (x : Kept). AreAlike is.before.rounds x.rounds) (sym other) is.alike)
 
 pub returns-clause-few : goal.returns-clause-few
 returns-clause-few c = λ s k next k_kept next_kept is.

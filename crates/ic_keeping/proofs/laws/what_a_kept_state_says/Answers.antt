@@ -1,3 +1,5 @@
+use Rattle.ic_flat.specs.Flat.{configuration_of}
+use Rattle.ic_keeping.proofs.ByRounds.{rounds_there}
 use Rattle.ic_keeping.proofs.laws.what_a_kept_state_says.Goals as goal
 
 pub returns-clause-reads : goal.returns-clause-reads
@@ -23,3 +25,8 @@ returns-clause-counted c = λ s k is. (is.equations, is.counted)
 
 pub returns-clause-low : goal.returns-clause-low
 returns-clause-low c = λ s k is few. (is.next, is.way.fired, is.low few, is.way.reached)
+
+pub returns-clause-rounds : goal.returns-clause-rounds
+returns-clause-rounds c = λ s k made is same.
+    let rounds = rounds_there s (configuration_of k.words k.terms is.next) k.rounds made same is.rounds in
+    ((is.next, rounds.net), rounds.needed)

@@ -1,44 +1,27 @@
-use Rattle.std.proofs.Common.{◌∙◌, ◌*◌, ◌<◌, ℕ, length, subst, arith}
+use Rattle.std.proofs.Common.{◌∙◌, ◌++◌, ℕ, List, [], Option, append-nil, ap, arith, length, sym}
 use Rattle.std.proofs.lemmas.Result.{err_from_is_err_and}
-use Rattle.ic_state.proofs.StateLemmas.{too_short, format_is, ended_is, rules_fit, words_fit, read_at}
-use Rattle.ic_state.proofs.form.decode.Goals.{then-index-ne-FORMAT-via-then-index-ne-FORMAT, then-index-ne-FORMAT-via-else-index-ne-FORMAT+then-index-gt1}
+use Rattle.std.specs.List.{flat_map}
+use Rattle.ic_state.specs.Numbers.{eight_bytes}
+use Rattle.ic_state.specs.State.{kept_by, plain_bytes, rounds_numbers}
+use Rattle.ic_state.proofs.StateLemmas.{long_state}
 use Rattle.ic_state.proofs.form.decode.Goals as goal
 
-pub returns-in_err-head-clause-refused : goal.returns-in_err-head-clause-refused
-returns-in_err-head-clause-refused c =
+pub returns-clause-state : goal.returns-clause-state
+returns-clause-state c =
+    let state = c.in_ok-state.state in
+    c.in_ok-rounds.ensures.read
+    ∙ ap (λ (l : List ℕ). flat_map eight_bytes (rounds_numbers c.in_ok-rounds.rounds) ++ l) c.in_ok-state.ensures.state
+    ∙ ap (λ (r : Option ℕ). flat_map eight_bytes (rounds_numbers r) ++ plain_bytes (kept_by state)) (sym c.in_ok-state.ensures.rounds)
+
+pub returns-in_err-rounds-clause-refused : goal.returns-in_err-rounds-clause-refused
+returns-in_err-rounds-clause-refused c =
     let e = err_from_is_err_and c.from_residual.result c.from_residual.ensures.1 in
-    rw (e.1, e.2) (λ same kept sound is. too_short kept c.args.bytes.now (c.in_err-head.ensures.refused (cc (same))) is)
-
-pub returns-then-index-ne-FORMAT-clause-refused : goal.returns-then-index-ne-FORMAT-clause-refused
-returns-then-index-ne-FORMAT-clause-refused c = λ same kept sound is.
-    let head = c.in_ok-head.head.items in
-    let read = c.in_ok-head.ensures in
-    let format = format_is head c.args.bytes.now c.in_ok-head.rest.now read.count read.small read.read kept sound is in
-    let ended = ended_is head c.args.bytes.now c.in_ok-head.rest.now read.count read.small read.read kept sound is in
-    elim c.then-index-ne-FORMAT.branch [
-      | then-index-ne-FORMAT-via-then-index-ne-FORMAT w ↦ w.if-index-ne-FORMAT.true (read_at head 0 c.index.result.now c.index.ensures (omega (arith, read.count)) ∙ format)
-      | then-index-ne-FORMAT-via-else-index-ne-FORMAT+then-index-gt1 w ↦
-          omega (arith, w.if-index-gt1.true, read_at head 3 w.index-else-index-ne-FORMAT.result.now w.index-else-index-ne-FORMAT.ensures (omega (arith, read.count)), ended)
-    ]
-
-pub returns-in_err-by_rule-clause-refused : goal.returns-in_err-by_rule-clause-refused
-returns-in_err-by_rule-clause-refused c =
-    let e = err_from_is_err_and c.from_residual-in_err-by_rule.result c.from_residual-in_err-by_rule.ensures.1 in
     rw (e.1, e.2) (λ same kept sound is.
-    let head = c.in_ok-head.head.items in
-    let read = c.in_ok-head.ensures in
-    let count = read_at head 4 c.index-2.result.now c.index-2.ensures (omega (arith, read.count)) in
-    rules_fit head c.args.bytes.now c.in_ok-head.rest.now read.count read.small read.read kept sound is
-    (subst (λ (n : ℕ). length c.in_ok-head.rest.now < 8 * n) count (c.in_err-by_rule.ensures.refused (cc (same)))))
+    omega (arith, c.in_err-rounds.ensures.refused kept [] sound (append-nil c.args.bytes.now ∙ is), ap length is, long_state kept))
 
-pub returns-in_err-words-clause-refused : goal.returns-in_err-words-clause-refused
-returns-in_err-words-clause-refused c =
-    let e = err_from_is_err_and c.from_residual-in_err-words.result c.from_residual-in_err-words.ensures.1 in
+pub returns-in_err-state-clause-refused : goal.returns-in_err-state-clause-refused
+returns-in_err-state-clause-refused c =
+    let e = err_from_is_err_and c.from_residual-in_err-state.result c.from_residual-in_err-state.ensures.1 in
     rw (e.1, e.2) (λ same kept sound is.
-    let head = c.in_ok-head.head.items in
-    let read = c.in_ok-head.ensures in
-    let count = read_at head 4 c.index-2.result.now c.index-2.ensures (omega (arith, read.count)) in
-    let words = read_at head 5 c.index-3.result.now c.index-3.ensures (omega (arith, read.count)) in
-    words_fit head c.args.bytes.now c.in_ok-head.rest.now read.count read.small read.read kept sound is
-    c.in_ok-by_rule.by_rule.items c.in_ok-by_rule.rest.now (c.in_ok-by_rule.ensures.count ∙ count) c.in_ok-by_rule.ensures.small c.in_ok-by_rule.ensures.read
-    (subst (λ (n : ℕ). length c.in_ok-by_rule.rest.now < 8 * n) words (c.in_err-words.ensures.refused (cc (same)))))
+    let told = c.in_ok-rounds.ensures.told kept [] sound (append-nil c.args.bytes.now ∙ is) in
+    c.in_err-state.ensures.refused (cc (same)) kept sound (sym (append-nil c.in_ok-rounds.plain.now) ∙ told.1))

@@ -1,4 +1,4 @@
-use Rattle.std.proofs.Common.{◌≡◌, ◌⊎◌, ◌+◌, ◌≤◌, max}
+use Rattle.std.proofs.Common.{◌≡◌, ◌⊎◌, ℕ, ◌+◌, ◌^◌, ◌<◌, ◌≤◌, None, Some, max}
 use Rattle.std.specs.Arc.{arc_value}
 use Rattle.ic_rules.specs.System.{SystemParts}
 use Rattle.ic_state.specs.State.{IsKept, kept_by}
@@ -13,8 +13,11 @@ use Rattle.ic_keeping.proofs.going.Run.go_on.Given as goal
 abbrev pub invariant-loop-pieces : goal.invariant-loop-pieces
 invariant-loop-pieces g l = record {
   least : l.fn.start.state.interactions ≤ l.state.interactions;
-  each : l.pieces + l.fn.start.state.interactions ≤ l.state.interactions;
-  most : l.state.interactions ≤ max l.fn.self.bounds.steps l.fn.start.state.interactions;
+  any : l.fn.start.state.rounds ≡ None → (l.state.rounds ≡ None) × (l.pieces + l.fn.start.state.interactions ≤ l.state.interactions)
+      × (l.state.interactions ≤ max l.fn.self.bounds.steps l.fn.start.state.interactions);
+  rounds : (m : ℕ) → l.fn.start.state.rounds ≡ Some m → (n : ℕ) × (l.state.rounds ≡ Some n) × (l.pieces + m ≤ n) × ((l.pieces ≡ 0) ⊎ (n + 1 < 2 ^ 64));
+  few : (s : SystemParts) → IsStartOf s l.fn.start → (m n : ℕ) → l.fn.start.state.rounds ≡ Some m → l.state.rounds ≡ Some n → n ≤ max l.fn.self.rounds m;
+  below : (m n : ℕ) → l.fn.start.state.rounds ≡ Some m → l.state.rounds ≡ Some n → m < l.fn.self.rounds → n < l.fn.self.rounds;
   millis : l.fn.start.state.millis ≤ l.state.millis;
   sound : (l.keeper ≡ l.fn.keeper) ⊎ IsWritten (arc_value l.fn.start.rules).symbols l.state.words.items l.state.terms;
   ready : WereReady l.fn.keeper l.keeper;

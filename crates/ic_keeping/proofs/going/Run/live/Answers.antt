@@ -30,7 +30,7 @@ returns-in-Ok-clause-ended g c s least hold =
     let found = c.in_ok-keeper.ensures in
     let is = found.state s least hold in
     IfOk-weaker c.live_on.result _ _
-    (λ lived ends. ends_life g.D.Disk s c.args.self.now.bounds c.args.self.now.asked least c.args.first c.args.second (start_here g at) c.in_ok-keeper.keeper lived.0 lived.1
+    (λ lived ends. ends_life g.D.Disk s c.args.self.now.bounds c.args.self.now.rounds c.args.self.now.asked least c.args.first c.args.second (start_here g at) c.in_ok-keeper.keeper lived.0 lived.1
     (is_start g at s is.0) found.sound (found.found hold.model) is.1 ends)
     c.live_on.ensures.ended
 

@@ -1,0 +1,173 @@
+-- Rounds go on from the net of other rounds.
+use Rattle.std.proofs.Common.{◌≡◌, ◌⊎◌, ⊎_elim, inl, inr, ◌∙◌, ℕ, zero, suc, ◌+◌, ◌-◌, ◌<◌, ◌≤◌, List, Option, None, Some, refl, sym, ap, subst, arith}
+use Rattle.std.proofs.lemmas.Bool.{cases_lt}
+use Rattle.std.specs.Prelude.{IsTrue}
+use Rattle.ic_term.specs.Configuration.{Configuration, configuration_names, occurrences}
+use Rattle.ic_term.specs.Symbol.{is_over}
+use Rattle.ic_rules.specs.Rule.{Rule}
+use Rattle.ic_rules.specs.RuleSet.{Rules, IsRuleSet}
+use Rattle.ic_rules.specs.System.{SystemParts}
+use Rattle.ic_settle.specs.NameSteps.{no_step}
+use Rattle.ic_flat.specs.declared.word.Word.{Word}
+use Rattle.ic_flat.specs.Flat.{configuration_of}
+use Rattle.ic_naming.specs.Naming.{renumbered}
+use Rattle.ic_round.specs.Naming.{HasNames}
+use Rattle.ic_round.specs.Quiet.{IsQuiet}
+use Rattle.ic_round.specs.Rounds.{iterate, round}
+use Rattle.ic_reaching.specs.OneNet.{OneNet, SameButNext}
+use Rattle.ic_text.specs.declared.limits.TheConstants.{MAX_NAME}
+use Rattle.ic_in_place.specs.declared.running.End.{End}
+use Rattle.ic_in_place.specs.declared.running.End.TheVariants.{Quiet, Steps}
+use Rattle.ic_in_place.specs.declared.reducing.Reduced.{Reduced}
+use Rattle.ic_in_place.specs.declared.running.Bounds.{Bounds}
+use Rattle.ic_in_place.specs.Reductions.{IsReducedTo}
+use Rattle.ic_in_place.specs.Rounds.{IsRoundedTo, MakesRounds}
+use Rattle.ic_keeping.specs.inner.Pieces.{IsMade}
+use Rattle.ic_keeping.specs.Way.{AreAlike, AreRoundsTo, IsAfterRounds, IsSound}
+use Rattle.ic_keeping.proofs.Quiet.{QuietLaws, quiet_same}
+use Rattle.ic_keeping.proofs.WayLemmas.{same_parts}
+
+-- what laws of rounds and of nets say that this one builds on
+pub record RoundLaws : Type 0 where
+  pub over : (rs : Rules) (n : ℕ) (c : Configuration) → IsRuleSet rs → IsTrue (is_over rs.symbols c) → IsTrue (is_over rs.symbols (iterate rs.rules n c))
+  pub names : (rs : Rules) (n : ℕ) (c : Configuration) → IsRuleSet rs → IsTrue (is_over rs.symbols c) → HasNames c → HasNames (iterate rs.rules n c)
+  pub rounds : (rs : Rules) (n : ℕ) (c d : Configuration) → IsRuleSet rs → IsTrue (is_over rs.symbols c) → HasNames c → HasNames d → SameButNext c d
+      → SameButNext (iterate rs.rules n c) (iterate rs.rules n d)
+  pub next : (c : Configuration) (next : ℕ) → SameButNext c (record c { next = next })
+  pub other_way : (c d : Configuration) → SameButNext c d → SameButNext d c
+  pub through : (c d e : Configuration) → SameButNext c d → SameButNext d e → SameButNext c e
+  pub net_other_way : (c d : Configuration) → OneNet c d → OneNet d c
+  pub net_through : (c d e : Configuration) → OneNet c d → OneNet d e → OneNet c e
+
+-- rounds, and then more of them
+rounds_on : (rs : List Rule) (m n : ℕ) (c : Configuration) → iterate rs (m + n) c ≡ iterate rs m (iterate rs n c)
+rounds_on rs zero n c = let same : 0 + n ≡ n = omega arith in ap (λ (k : ℕ). iterate rs k c) same
+rounds_on rs (suc m) n c = let same : suc m + n ≡ suc (m + n) = omega arith in ap (λ (k : ℕ). iterate rs k c) same ∙ ap (round rs) (rounds_on rs m n c)
+
+-- the same net is one net
+one_of_same : (c d : Configuration) → HasNames c → HasNames d → SameButNext c d → OneNet c d
+one_of_same c d named named_too same = record { names = named; names_too = named_too; end = c; end_too = d; steps = no_step c; steps_too = no_step d; same = same }
+
+-- a text, of which no round is over
+pub none_over : RoundLaws → (s : SystemParts) → AreRoundsTo s 0 s.config
+none_over laws s = record { net = laws.next s.config s.config.next; needed = λ n low. absurd (omega (arith, low)) }
+
+pub after_rounds : (s : SystemParts) (c : Configuration) (o : Option ℕ) → ((n : ℕ) → o ≡ Some n → AreRoundsTo s n c) → IsAfterRounds s o c
+after_rounds s c None each = tt
+after_rounds s c (Some n) each = each n refl
+
+pub rounds_there : (s : SystemParts) (c : Configuration) (o : Option ℕ) (n : ℕ) → o ≡ Some n → IsAfterRounds s o c → AreRoundsTo s n c
+rounds_there s c None n same is = cc (same)
+rounds_there s c (Some m) n same is = let one : m ≡ n = cc (same) in subst (λ (k : ℕ). AreRoundsTo s k c) one is
+
+-- A configuration after rounds, a system that has it, and what was made of that by more of them.
+module _ (laws : RoundLaws) (quiet_laws : QuietLaws) (s t : SystemParts) (sound : IsSound s) (rules : t.rules ≡ s.rules) (d : Configuration)
+    (interface : t.config.interface ≡ d.interface) (equations : t.config.equations ≡ d.equations) (names : HasNames t.config) (over_symbols : IsTrue (is_over t.rules.symbols t.config))
+    (over : ℕ) (was : AreRoundsTo s over d) (left made : ℕ) (end : End) (answer : Configuration) (more : MakesRounds t left made end answer) where
+  abbrev rs : Rules
+  rs = s.rules
+
+  begun : SameButNext (iterate rs.rules over s.config) t.config
+  begun = laws.through (iterate rs.rules over s.config) d t.config was.net
+      (subst (λ (e : Configuration). SameButNext d e) (same_parts (record d { next = t.config.next }) t.config (sym interface) (sym equations) refl) (laws.next d t.config.next))
+
+  is_over_here : IsTrue (is_over rs.symbols t.config)
+  is_over_here = subst (λ (r : Rules). IsTrue (is_over r.symbols t.config)) rules over_symbols
+
+  net_then : (n : ℕ) → SameButNext (iterate rs.rules (n + over) s.config) (iterate rs.rules n t.config)
+  net_then n = subst (λ (e : Configuration). SameButNext e (iterate rs.rules n t.config)) (sym (rounds_on rs.rules n over s.config))
+      (laws.rounds rs n (iterate rs.rules over s.config) t.config sound.rules (laws.over rs over s.config sound.rules sound.over) (laws.names rs over s.config sound.rules sound.over sound.names) names begun)
+
+  late : (n : ℕ) → over ≤ n → n < over + made → IsQuiet rs.rules (iterate rs.rules n s.config) → ⊥
+  late n low high quiet =
+      let j : ℕ = n - over in
+      let same : n ≡ j + over = omega (arith, low) in
+      let there = subst (λ (k : ℕ). IsQuiet rs.rules (iterate rs.rules k s.config)) same quiet in
+      let here = quiet_same quiet_laws rs (iterate rs.rules (j + over) s.config) (iterate rs.rules j t.config) (laws.names rs (j + over) s.config sound.rules sound.over sound.names) sound.rules
+      (laws.over rs (j + over) s.config sound.rules sound.over) (net_then j) there in
+      more.needed j (omega (arith, high, same)) (subst (λ (r : Rules). IsQuiet r.rules (iterate r.rules j t.config)) (sym rules) here)
+
+  pub all_needed : (n : ℕ) → n < over + made → IsQuiet rs.rules (iterate rs.rules n s.config) → ⊥
+  all_needed n high quiet = ⊎_elim (λ early. was.needed n early quiet) (λ low. late n low high quiet) (cases_lt n over)
+
+  turned_sum : made + over ≡ over + made
+  turned_sum = omega arith
+
+  pub net_after : (end ≡ Quiet) ⊎ (end ≡ Steps) → OneNet answer (iterate rs.rules (over + made) s.config)
+  net_after either =
+      let last = iterate rs.rules made t.config in
+      let here = subst (λ (r : Rules). OneNet answer (iterate r.rules made t.config)) rules (more.net either) in
+      let all = one_of_same (iterate rs.rules (made + over) s.config) last (laws.names rs (made + over) s.config sound.rules sound.over sound.names) (laws.names rs made t.config sound.rules is_over_here names) (net_then made) in
+      subst (λ (n : ℕ). OneNet answer (iterate rs.rules n s.config)) turned_sum
+      (laws.net_through answer last (iterate rs.rules (made + over) s.config) here (laws.net_other_way (iterate rs.rules (made + over) s.config) last all))
+
+  same_after : (end ≡ Quiet) ⊎ (end ≡ Steps) → 1 ≤ left → SameButNext (iterate rs.rules (over + made) s.config) answer
+  same_after either one =
+      let last = iterate rs.rules made t.config in
+      let here = subst (λ (r : Rules). SameButNext answer (iterate r.rules made t.config)) rules (more.same either one) in
+      subst (λ (n : ℕ). SameButNext (iterate rs.rules n s.config) answer) turned_sum
+      (laws.through (iterate rs.rules (made + over) s.config) last answer (net_then made) (laws.other_way answer last here))
+
+  -- and so is the net with its names numbered anew
+  pub rounds_to : (end ≡ Quiet) ⊎ (end ≡ Steps) → 1 ≤ left → ((x : ℕ) → occurrences x (configuration_names answer) ≡ 1 → x ≤ MAX_NAME) → (words : List Word) (terms next : ℕ)
+      → configuration_of words terms (MAX_NAME + 1) ≡ renumbered answer → AreRoundsTo s (over + made) (configuration_of words terms next)
+  rounds_to either one low words terms next written =
+      let kept = configuration_of words terms next in
+      let numbered : SameButNext (renumbered answer) kept = subst (λ (e : Configuration). SameButNext e kept) written (laws.next (configuration_of words terms (MAX_NAME + 1)) next) in
+      record {
+        net = laws.through (iterate rs.rules (over + made) s.config) answer kept (same_after either one) (laws.through answer (renumbered answer) kept (quiet_laws.renumbered answer low) numbered);
+        needed = all_needed;
+      }
+
+-- ---- whether both go by rounds
+
+pub alike_itself : (o : Option ℕ) → AreAlike o o
+alike_itself None = tt
+alike_itself (Some n) = omega arith
+
+pub alike_on : (a b c : Option ℕ) → AreAlike a b → AreAlike b c → AreAlike a c
+alike_on None None None one two = tt
+alike_on None None (Some c) one two = two
+alike_on None (Some b) c one two = absurd one
+alike_on (Some a) None c one two = absurd one
+alike_on (Some a) (Some b) None one two = two
+alike_on (Some a) (Some b) (Some c) one two = omega (arith, one, two)
+
+pub alike_of : (old new : Option ℕ) → (old ≡ None → new ≡ None) → ((m n : ℕ) → old ≡ Some m → new ≡ Some n → m ≤ n) → (old ≡ None) ⊎ ((n : ℕ) × (new ≡ Some n)) → AreAlike old new
+alike_of None None any more whole = tt
+alike_of None (Some n) any more whole = cc (any refl)
+alike_of (Some m) None any more (inl none) = cc (none)
+alike_of (Some m) None any more (inr some) = cc (some.1)
+alike_of (Some m) (Some n) any more whole = more m n refl refl
+
+-- by the order in which a reduction goes
+pub by_order : {P : Type 0} (o : Option ℕ) → (o ≡ None → P) → ((m : ℕ) → o ≡ Some m → P) → P
+by_order None any rounds = any refl
+by_order (Some m) any rounds = rounds m refl
+
+-- ---- what a piece has made
+
+pub made_by_rounds : (s : SystemParts) (bounds : Bounds) (most enough over left : ℕ) (rounds : Option ℕ) (reduced : Reduced) (made : ℕ) → rounds ≡ Some over → left ≡ most - over
+    → IsRoundedTo s left enough made reduced → IsMade s bounds most rounds reduced made
+made_by_rounds s bounds most enough over left rounds reduced made at same is = record {
+  within = is.bounds;
+  bounded = λ none. absurd (cc (sym at ∙ none));
+  answer = is.answer;
+  reached = is.reached;
+  together = is.together;
+  writes = is.writes;
+  by_rounds = λ n there.
+      let one : over ≡ n = cc (sym at ∙ there) in
+      subst (λ (k : ℕ). MakesRounds s (most - k) made reduced.end is.answer) one (subst (λ (l : ℕ). MakesRounds s l made reduced.end is.answer) same is.made);
+}
+
+pub made_by_threads : (s : SystemParts) (bounds : Bounds) (most : ℕ) (rounds : Option ℕ) (reduced : Reduced) → rounds ≡ None → IsReducedTo s bounds reduced → IsMade s bounds most rounds reduced 0
+made_by_threads s bounds most rounds reduced at is = record {
+  within = bounds;
+  bounded = λ none. refl;
+  answer = is.0;
+  reached = is.1;
+  together = is.2;
+  writes = is.4;
+  by_rounds = λ n there. absurd (cc (sym at ∙ there));
+}
