@@ -103,7 +103,7 @@ class Install(Trial):
     def test_bash_completes_words_options_choices_and_files(self):
         (self.room / "sum.ic").write_text("")
         self.equals("icserve s", "what is offered", ["serve", "settle"], self.completed("s"))
-        self.equals("icserve reduce --s", "what is offered", ["--seconds", "--stats", "--steps"], self.completed("reduce", "--s"))
+        self.equals("icserve reduce --s", "what is offered", ["--seconds", "--span", "--stats", "--steps"], self.completed("reduce", "--s"))
         self.equals("icserve trace --format s", "what is offered", ["svg"], self.completed("trace", "--format", "s"))
         self.equals("icserve trace --format ''", "what is offered", ["json", "svg", "tsv"], self.completed("trace", "--format", "''"))
         self.equals("icserve reduce --format ''", "what is offered", ["json", "lines"], self.completed("reduce", "--format", "''"))

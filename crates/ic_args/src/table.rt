@@ -337,7 +337,7 @@ pub const PROFILE: Text = Text {
     shown: "TO",
     needed: false,
     apart: &[],
-    help: "Write to TO how many pairs each round would fire, as a picture if it ends in .svg",
+    help: "Write how many pairs each round would fire: a picture if TO ends in .svg",
 };
 
 /// Where a reduction is kept that begins.
