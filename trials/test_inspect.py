@@ -315,7 +315,7 @@ class Inspect(ModelTrial):
                 put(self.path, slot(1, EMPTY), second)
                 lines = report(self.path.read_bytes())
                 ran = self.runs("inspect", "--disk", self.path, out=lines, env=shimmed(log=log))
-                wanted = [(0, 73), (0, HEAD), (HEAD, len(EMPTY)), *parts, (0, HEAD), (SECOND, HEAD)]
+                wanted = [(0, 89), (0, HEAD), (HEAD, len(EMPTY)), *parts, (0, HEAD), (SECOND, HEAD)]
                 self.equals(ran.command, "what is read", wanted, [(it.at, it.length) for it in noted(log) if it.kind == "R"])
 
     def test_an_output_that_cant_be_written(self):
