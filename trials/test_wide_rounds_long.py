@@ -1,5 +1,6 @@
 """20,000 drawn systems whose rounds in place have the rows and nets of rounds of words, and 300 nets of 100,000 to 10,000,000 interactions
-whose rounds add up to those of any order. They take some ten minutes of one processor: python3 trials wide_rounds_long."""
+whose rounds add up to those of any order, and are those that `reduce --profile` tells by one thread and by four. They take some ten
+minutes of one processor: python3 trials wide_rounds_long."""
 
 import draws
 from program import IN_MEMORY, Trial, run
@@ -127,6 +128,15 @@ class ManyLargeNets(Trial):
         rest = run("reduce", "--rounds", span, "--stats", given=text[: text.index("}") + 1].encode() + cut.out)
         self.equals(rest.command, "status and interactions that were left", (0, made - sum(pairs[:count])), (rest.status, stats_of(rest.err)[0]))
         self.agrees(rest.command, "the net", in_any_order.out, rest.out)
+        self.has_profile(text, pairs)
+
+    def has_profile(self, text, pairs):
+        """Fails unless a reduction in any order, by one thread and by four, tells these pairs of its rounds."""
+        path = self.room / "profile.tsv"
+        for workers in (1, 4):
+            ran = run("reduce", "--quiet-answer", "--workers", workers, "--profile", path, given=text)
+            told = [int(it.split("\t")[1]) for it in path.read_text().splitlines()[1:]]
+            self.equals(ran.command, "status and pairs of each round", (0, pairs), (ran.status, told))
 
     def test_sums_and_products(self):
         self.each_adds_up(sums)
