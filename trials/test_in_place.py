@@ -22,6 +22,7 @@ MOST = 2**62 - 1
 STATS = re.compile(
     rb"icserve: interactions (\d+)(?:, name steps (\d+))?, nodes (\d+), equations (\d+)(?:, rounds \d+)?, threads (\d+), shared (\d+), seconds (?:0\.000|\d+\.\d{3}, interactions a second \d+)\n"
     rb"icserve: (no interactions|rule \d+ \S+><\S+: \d+ interactions?(?:, rule \d+ \S+><\S+: \d+ interactions?)*)\n"
+    rb"(?:icserve: ((?:thread \d+: \d+ interactions?, )+)trees handed on (\d+), seconds idle (\d+\.\d{3})\n)?"
 )
 REACHED = re.compile(rb"interactions (\d+), nodes (\d+), equations (\d+)(?:, --nodes (\d+))?\n")
 
@@ -62,7 +63,7 @@ def name_steps_of(err):
 
 def figures_of(err):
     """The figures that a run with `--stats` tells as lines, by their names in an object, and what else it says. Time and pace
-    are none of them."""
+    are none of them. Those of threads are there if several threads made anything."""
     told = STATS.match(err)
     if not told:
         return None, err
@@ -70,6 +71,10 @@ def figures_of(err):
     figures = {name: it and int(it) for name, it in zip(names, told.groups())}
     fired = re.findall(rb"rule (\d+) (\S+): (\d+)", told[7])
     figures["fired"] = {int(rule): (pair.decode(), int(count)) for rule, pair, count in fired}
+    if told[8]:
+        threads = re.findall(rb"thread (\d+): (\d+) interaction(s?)", told[8])
+        figures["by_thread"] = [int(made) for number, (at, made, more) in enumerate(threads, 1) if (int(at), bool(more)) == (number, made != b"1")]
+        figures["handed_on"] = int(told[9])
     return {name: it for name, it in figures.items() if it is not None}, err[told.end() :]
 
 
@@ -343,7 +348,7 @@ class HardNets(InPlace):
         yield DOUBLES, ["--nodes", drawn.randint(100, 9_999), "--workers", 1], "nodes", 1
 
     def test_figures_as_an_object_are_those_as_lines(self):
-        fields = ["end", "stuck", "circle", "interactions", "name_steps", "nodes", "equations", "threads", "shared", "milliseconds", "interactions_a_second", "by_rule"]
+        fields = ["end", "stuck", "circle", "interactions", "name_steps", "nodes", "equations", "threads", "shared", "by_thread", "handed_on", "idle_milliseconds", "milliseconds", "interactions_a_second", "by_rule"]
         for text, words, end, status in self.shown():
             lines = run("reduce", "--stats", *words, given=text)
             told, rest = figures_of(lines.err)

@@ -10,11 +10,14 @@ import nets
 from known import ADD
 from program import IN_MEMORY, Trial, run
 from shim import noted, shimmed
-from test_in_place import DOUBLES, PILES, REACHED, figures_of, name_steps_of, stats_of
+from test_in_place import DOUBLES, PILES, REACHED, figures_of, name_steps_of, object_of, stats_of
 
 SYSTEMS = int(os.environ.get("SYSTEMS") or 400)
 
 WORKERS = (2, 3, 7, 64)
+
+# The fields of an object that tell how several threads shared a reduction.
+THREADS = {"by_thread", "handed_on", "idle_milliseconds"}
 
 PATIENT = 2_000
 
@@ -273,6 +276,37 @@ class Sizes(Trial):
                 ran = run("reduce", "--stats", "--workers", workers, "--nodes", 100_000, given=grows, seconds=30)
                 told = figures_of(ran.err)[0]
                 self.equals(ran.command, f"whether one thread ends {told}", True, told["shared"] < told["interactions"])
+
+    def test_what_each_thread_has_made_is_told(self):
+        """As many numbers as threads, together those that are shared but for the first, which one thread makes; by one thread none."""
+        text = f"{FIB}<r|F(r)={numeral(22)}>"
+        for words in (["--workers", 1], ["--steps", 10**9], ["--rounds", 10**6]):
+            ran = run("reduce", "--stats", *words, given=text)
+            self.equals(ran.command, "what is told of threads", False, b"icserve: thread " in ran.err)
+            objects = run("reduce", "--stats", "--format", "json", *words, given=text)
+            self.equals(objects.command, "fields of threads", set(), THREADS & set(object_of(objects.err)[0]))
+        for workers in (2, 4):
+            ran = run("reduce", "--stats", "--workers", workers, given=text)
+            self.adds_up(ran.command, workers, figures_of(ran.err)[0])
+            objects = run("reduce", "--stats", "--format", "json", "--workers", workers, given=text)
+            told = object_of(objects.err)[0]
+            self.equals(objects.command, "fields of threads", THREADS, THREADS & set(told))
+            self.adds_up(objects.command, workers, told)
+            idle = told["idle_milliseconds"]
+            self.equals(objects.command, f"whether {idle} of so many threads are within its time", True, idle <= workers * (told["milliseconds"] + 1))
+
+    def adds_up(self, command, workers, told):
+        """Fails unless so many threads share what is told as shared, but for a part, and some trees are handed on."""
+        made = told["by_thread"]
+        self.equals(command, "threads", workers, len(made))
+        self.equals(command, f"whether {made} are some of {told['shared']}", True, 0 < sum(made) <= told["shared"])
+        self.equals(command, "whether several threads made some", True, sum(it > 0 for it in made) > 1)
+        self.equals(command, "whether trees are handed on", True, told["handed_on"] > 0)
+
+    def test_what_each_thread_has_made_is_told_of_a_kept_reduction(self):
+        """Of all pieces between two keeps together."""
+        ran = run("reduce", "--keep", self.room / "net", "--seconds", 1, "--stats", "--workers", 2, given=f"{FIB}<r|F(r)={numeral(24)}>", seconds=120)
+        self.adds_up(ran.command, 2, figures_of(ran.err)[0])
 
     def test_where_too_few_are_left_to_share_the_first_are_told_as_shared(self):
         """The first 100 interactions are made before anything is parted. Then 99 or 40 are left, or fewer than 1,000 a thread."""

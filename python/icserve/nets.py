@@ -19,8 +19,9 @@ PathText = Union[str, "os.PathLike[str]"]
 @dataclass(frozen=True)
 class Answer:
     """What a text was reduced to. `is_done` says whether no step is possible any more. Then `stuck` is the first pair without a rule, and
-    `circle` the symbol at which the first circle is closed. `by_rule` has the interactions of each rule, by its two symbols, and `span`
-    is the number of rounds, of a text that is reduced by rounds."""
+    `circle` the symbol at which the first circle is closed. `by_rule` has the interactions of each rule, by its two symbols. `span`
+    is the number of rounds, of a text that is reduced by rounds or with `span=True`. `by_thread` has the interactions of each thread
+    while several reduced."""
 
     text: str
     is_done: bool
@@ -32,6 +33,7 @@ class Answer:
     milliseconds: Optional[int] = None
     circle: Optional[str] = None
     span: Optional[int] = None
+    by_thread: Optional[List[int]] = None
 
     def __str__(self) -> str:
         return self.text
@@ -65,7 +67,8 @@ def answer_of(ran: Ran) -> Answer:
     for it in figures["by_rule"]:
         by_rule[it["rule"]] = by_rule.get(it["rule"], 0) + it["interactions"]
     names = ("stuck", "circle", "interactions", "nodes", "threads", "milliseconds")
-    return Answer(text, ran.status == 0, by_rule=by_rule, span=figures.get("rounds"), **{it: figures[it] for it in names})
+    span, by_thread = figures.get("rounds", figures.get("span")), figures.get("by_thread")
+    return Answer(text, ran.status == 0, by_rule=by_rule, span=span, by_thread=by_thread, **{it: figures[it] for it in names})
 
 
 def options(**values: Optional[Any]) -> List[str]:
@@ -80,8 +83,10 @@ def reduce(
     nodes: Optional[int] = None,
     rounds: Optional[int] = None,
     keep: Optional[PathText] = None,
+    span: bool = False,
 ) -> Answer:
-    """Reduces a text: by steps in any order until none is possible, or by so many rounds.
+    """Reduces a text: by steps in any order until none is possible, or by so many rounds. With `span` it is told how many rounds
+    there would have been.
 
     >>> answer = reduce("{Add(x,x)><Z; Add(S(x),y)><S(Add(x,y))} <r|Add(r,S(Z))=S(S(Z))>")
     >>> answer.text, answer.interactions, answer.by_rule
@@ -90,10 +95,12 @@ def reduce(
     False
     >>> reduce("{A><B} <|A=B,A=B>", rounds=100).span
     1
+    >>> reduce("{A><B} <|A=B,A=B>", span=True).span
+    1
 
     With `keep` it is kept in two files now and then, and goes on by `resume` after a stop. What the program refuses raises
     `Refusal`."""
-    words = options(workers=workers, steps=steps, nodes=nodes, rounds=rounds, keep=keep)
+    words = options(workers=workers, steps=steps, nodes=nodes, rounds=rounds, keep=keep) + ["--span"] * span
     return answer_of(run("reduce", "--partial", "--stats", "--format", "json", *words, given=text))
 
 

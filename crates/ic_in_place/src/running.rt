@@ -45,6 +45,10 @@ pub trait Watch {
 
     /// Whether it is to be known in which rounds the pairs would fire that fire in any order.
     fn wants_rounds(&self) -> bool;
+
+    /// What several threads did before one machine had all: how many interactions each of them made, how many trees went from one to
+    /// another, and for how many nanoseconds they made no interactions, all together.
+    fn shared(&self, by_thread: &[u64], handed_on: u64, idle: u64);
 }
 
 /// Runs a machine in pieces, until no pair is left or so many interactions are made, a look finds too much, or a limit is met.

@@ -115,4 +115,8 @@ impl<C: Clock, V: Watch> Watch for Timed<'_, C, V> {
     fn wants_rounds(&self) -> bool {
         false
     }
+
+    fn shared(&self, by_thread: &[u64], handed_on: u64, idle: u64) {
+        self.watch.shared(by_thread, handed_on, idle);
+    }
 }

@@ -5,6 +5,7 @@ ghost use Rattle.std.specs.Fmt.{decimal};
 ghost use Rattle.ic_progress.specs.Figures.{StandsIn};
 
 use crate::line::a_second;
+use crate::shares::Shares;
 use ic_by_rounds::Summary;
 use ic_in_place::{End, Outcome};
 use ic_rules::{Rule, RuleSet};
@@ -15,19 +16,20 @@ use std::fmt::Write;
 
 /// The lines that tell the figures of a reduction by so many threads that took so many milliseconds: how many steps were
 /// made, how many names and agents there were and equations were left, how many rounds were made if it is reduced by rounds,
-/// the threads, how fast it was, and how often each rule fired.
+/// the threads, how fast it was, how often each rule fired, and how several threads shared it.
 pub fn figures_lines(
     alloc: Global,
     outcome: &Outcome,
     rounds: Option<u64>,
     threads: usize,
+    shares: &Shares,
     millis: u64,
 ) -> Result<Vec<u8>, AllocError>
     // The interactions that are told are those that were made.
     ensures told { IfOk result (λ lines. StandsIn
         (codes "interactions " ++ decimal outcome.now.interactions) lines.items) }
 {
-    let rest = rest_of_lines(alloc, outcome, rounds, threads, millis)?;
+    let rest = rest_of_lines(alloc, outcome, rounds, threads, shares, millis)?;
     let mut lines = b"icserve: ".to_vec(alloc)?;
     put_told(
         b"interactions ",
@@ -44,13 +46,14 @@ pub fn figures_object(
     outcome: &Outcome,
     rounds: Option<u64>,
     threads: usize,
+    shares: &Shares,
     millis: u64,
 ) -> Result<Vec<u8>, AllocError>
     // The interactions that are told are those that were made.
     ensures told { IfOk result (λ object. StandsIn
         (codes "\"interactions\":" ++ decimal outcome.now.interactions) object.items) }
 {
-    let rest = rest_of_object(alloc, outcome, rounds, threads, millis)?;
+    let rest = rest_of_object(alloc, outcome, rounds, threads, shares, millis)?;
     let mut object = front_of_object(alloc, outcome)?.into_bytes();
     put_told(
         b"\"interactions\":",
@@ -77,6 +80,7 @@ fn rest_of_lines(
     outcome: &Outcome,
     rounds: Option<u64>,
     threads: usize,
+    shares: &Shares,
     millis: u64,
 ) -> Result<String, AllocError> {
     let mut out = String::new(alloc);
@@ -105,6 +109,7 @@ fn rest_of_lines(
     out.push_str("\nicserve: ")?;
     put_rules(&outcome.rules, &outcome.by_rule, &mut out)?;
     out.push('\n')?;
+    shares.put_line(&mut out)?;
     Ok(out)
 }
 
@@ -208,6 +213,7 @@ fn rest_of_object(
     outcome: &Outcome,
     rounds: Option<u64>,
     threads: usize,
+    shares: &Shares,
     millis: u64,
 ) -> Result<String, AllocError> {
     let mut out = String::new(alloc);
@@ -227,6 +233,7 @@ fn rest_of_object(
         )?;
     }
     write!(out, ",\"threads\":{threads},\"shared\":{shared}")?;
+    shares.put_fields(&mut out)?;
     write!(out, ",\"milliseconds\":{millis},\"interactions_a_second\":")?;
     if millis > 0 {
         let pace = a_second(outcome.interactions, millis);

@@ -4,6 +4,8 @@
 mod figures;
 mod line;
 mod progress;
+mod shares;
 
 pub use figures::{figures_lines, figures_object};
 pub use progress::{Progress, Watching, WipedFirst};
+pub use shares::Shares;

@@ -4,9 +4,11 @@ ghost use Rattle.std.specs.Prelude.{◌≡◌};
 ghost use Rattle.ic_progress.specs.Wiped.{output_of};
 
 use crate::line::{Pace, a_second, progress_line, reducing_line};
+use crate::shares::Shares;
 use ic_in_place::Watch;
 use ic_pool::Gate;
 use std::alloc::{AllocError, Global};
+use std::cell::RefCell;
 use std::io::{self, IsTerminal, Write};
 use std::sync::Mutex;
 use std::sync::atomic::{AtomicU64, Ordering};
@@ -166,6 +168,8 @@ impl Gate for Progress<'_> {
 pub struct Watching<'a> {
     line: Line<'a>,
     wants_rounds: bool,
+    /// How threads have shared it so far.
+    shares: RefCell<Shares>,
 }
 
 impl<'a> Watching<'a> {
@@ -178,6 +182,15 @@ impl<'a> Watching<'a> {
         Watching {
             line: Line::new(rt),
             wants_rounds,
+            shares: RefCell::new(Shares::new(rt.alloc())),
+        }
+    }
+
+    /// How threads have shared it. What comes after it counts from nothing.
+    pub fn take_shares(&self, alloc: Global) -> Shares {
+        match self.shares.try_replace(Shares::new(alloc)) {
+            Ok(shares) => shares,
+            Err(none) => none,
         }
     }
 
@@ -198,6 +211,12 @@ impl Watch for Watching<'_> {
 
     fn wants_rounds(&self) -> bool {
         self.wants_rounds
+    }
+
+    fn shared(&self, by_thread: &[u64], handed_on: u64, idle: u64) {
+        if let Ok(mut shares) = self.shares.try_borrow_mut() {
+            shares.add(by_thread, handed_on, idle);
+        }
     }
 }
 

@@ -13,6 +13,7 @@ ghost use Rattle.ic_workers.specs.inner.Keeping.{parts_at, parts_in, parts_in_al
 use self::handing::gather;
 use crate::kept::{Hand, Kept, empty_part};
 use crate::policy::Policy;
+use crate::sharing::Sharing;
 use ic_in_place::Gauge;
 use ic_machine::{Machine, Program, Told};
 use std::alloc::{AllocError, Global};
@@ -46,20 +47,24 @@ pub(crate) struct Desk {
     waiting: HashMap<u64, Waiting>,
     /// Interactions in all.
     made: u64,
+    /// Who made them, and what that cost.
+    sharing: Sharing,
 }
 
 impl Desk {
-    /// One part, which is the whole.
-    fn new(alloc: Global, machine: Machine) -> Result<Desk, AllocError>
+    /// One part, which is the whole, for so many threads.
+    fn new(alloc: Global, machine: Machine, workers: usize) -> Result<Desk, AllocError>
         ensures parts { IfOk result (λ desk. slots_at desk ≡ (whole machine ∷ []) ∷ []) }
         ensures made { IfOk result (λ desk. desk.made ≡ 0) }
     {
+        let sharing = Sharing::new(alloc, workers)?;
         let mut parts = Vec::new(alloc);
         parts.push(Some(Kept::new(alloc, machine, 0, MOST_PARTS as u32)))?;
         Ok(Desk {
             parts,
             waiting: HashMap::new(alloc),
             made: 0,
+            sharing,
         })
     }
 

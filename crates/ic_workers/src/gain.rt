@@ -24,8 +24,8 @@ impl Gain {
         }
     }
 
-    /// Counts a step that has ended now, with all that was done for it.
-    pub(crate) fn count(&mut self, now: u64, ran: Ran, policy: Policy) {
+    /// Counts a step that has ended now, with all that was done for it. Answers how long that took.
+    pub(crate) fn count(&mut self, now: u64, ran: Ran, policy: Policy) -> u64 {
         let took = now.saturating_sub(self.last);
         let alone = ran.alone(policy);
         self.last = now;
@@ -36,6 +36,7 @@ impl Gain {
             .lost
             .saturating_add(lost)
             .saturating_sub(alone.saturating_sub(took));
+        took
     }
 
     /// Whether no more was lost than may be.
@@ -70,6 +71,12 @@ impl Ran {
             all: self.all.saturating_add(time),
             longest: self.longest.max(time),
         }
+    }
+
+    /// For how long threads ran nothing in a step that took so long, all together.
+    pub(crate) fn idle(self, took: u64, policy: Policy) -> u64 {
+        took.saturating_mul(policy.workers as u64)
+            .saturating_sub(self.all)
     }
 
     /// How long one thread would take for what they did. Where several run, each is slower.

@@ -10,6 +10,7 @@ mod kept;
 mod laws;
 pub mod parts;
 mod policy;
+mod sharing;
 mod stream;
 
 pub use desk::run_by_workers;

@@ -14,7 +14,7 @@ use ic_expand::{Opened, Shape, Wording, write_told};
 use ic_in_place::{Bounds, Outcome};
 use ic_keeping::{Ended, KeepingFault, Pace, Run, Start, begun};
 use ic_kept::Keeper;
-use ic_progress::Watching;
+use ic_progress::{Shares, Watching};
 use ic_streams::{StreamFault, read_text_within};
 use ic_text::Limits;
 use ic_workers::Policy;
@@ -58,16 +58,20 @@ pub(crate) fn reduce<T: Threads + Sync, R: Read>(
         let second = second_of(rt, kept.path)?;
         renew_lost(rt, paths_of(kept, &second), kept.from_one, notes)?;
     }
-    let (ended, _keeper) = match live_in(rt, threads, kept, bounds, wanted, input, notes, told) {
+    let watching = Watching::new(rt);
+    let watch = &watching;
+    let lived = live_in(rt, threads, kept, bounds, wanted, watch, input, notes, told);
+    let (ended, _keeper) = match lived {
         Err(Failure::Kept(KeepingFault::Unsound)) if kept.from_one => {
             let second = second_of(rt, kept.path)?;
             renew_newest(rt, paths_of(kept, &second), notes)?;
-            live_in(rt, threads, kept, bounds, wanted, input, notes, told)?
+            live_in(rt, threads, kept, bounds, wanted, watch, input, notes, told)?
         }
         lived => lived?,
     };
     let by_rounds = ended.rounds.is_some();
-    let done = tell(rt, ended, bounds, wanted, input.wording(), notes);
+    let shares = watching.take_shares(rt.alloc());
+    let done = tell(rt, ended, bounds, wanted, &shares, input.wording(), notes);
     if matches!(done, Err(Failure::Overgrown(_, _))) {
         let _ = tell_kept(rt, kept.path, by_rounds, told);
     }
@@ -89,6 +93,7 @@ fn live_in<'a, T: Threads + Sync, R: Read>(
     kept: KeptIn<'_>,
     bounds: Bounds,
     wanted: Wanted,
+    watching: &Watching<'_>,
     input: &mut R,
     notes: &'a Notes,
     told: &mut Vec<u8>,
@@ -97,7 +102,7 @@ fn live_in<'a, T: Threads + Sync, R: Read>(
     let pace = Pace::new(kept.seconds.saturating_mul(1_000));
     let rounds = kept.rounds.unwrap_or(MAX_ROUNDS);
     live_over(
-        rt, threads, from, first, second, bounds, rounds, pace, wanted,
+        rt, threads, from, first, second, bounds, rounds, pace, wanted, watching,
     )
 }
 
@@ -150,8 +155,8 @@ fn live_over<D: Disk + Drop, T: Threads + Sync>(
     rounds: u64,
     pace: Pace,
     wanted: Wanted,
+    watching: &Watching<'_>,
 ) -> Result<(Ended, Keeper<D>), Failure> {
-    let watching = Watching::new(rt);
     let run = Run {
         threads,
         clock: rt,
@@ -161,7 +166,7 @@ fn live_over<D: Disk + Drop, T: Threads + Sync>(
         rounds,
         pace,
         asked: wanted.asked,
-        watch: &watching,
+        watch: watching,
     };
     let lived = match from {
         Some(begun) => run.live_anew(begun, first, second),
@@ -309,12 +314,14 @@ fn open_second<'a>(
     open_disk_as(rt, second.as_str(), Target::Second, create, notes)
 }
 
-/// Tells how a reduction has ended: its line on standard output, where it is wanted, in these words, and the rest on standard error.
+/// Tells how a reduction has ended that threads shared so: its line on standard output, where it is wanted, in these words, and the
+/// rest on standard error.
 fn tell(
     rt: &HostRuntime,
     ended: Ended,
     bounds: Bounds,
     wanted: Wanted,
+    shares: &Shares,
     wording: Option<&Wording>,
     notes: &Notes,
 ) -> Result<(), Failure> {
@@ -356,6 +363,7 @@ fn tell(
         rounds,
         time,
         by_one(wanted, rounds),
+        shares,
         bounds.nodes,
     )
 }

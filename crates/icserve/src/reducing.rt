@@ -14,7 +14,7 @@ use ic_in_place::{
     Asked, Bounds, End, Outcome, RoundBounds, Rounded, Watch, reduce_by_rounds_stream,
     reduce_in_place_stream,
 };
-use ic_progress::{Watching, WipedFirst, figures_lines, figures_object};
+use ic_progress::{Shares, Watching, WipedFirst, figures_lines, figures_object};
 use ic_rules::RuleSet;
 use ic_streams::{StreamFault, write_line};
 use ic_text::Limits;
@@ -95,7 +95,8 @@ pub(crate) fn reduce<T: Threads + Sync, R: Read>(
     let outcome = reduced.map_err(Failure::Stream)?;
     let time = time_since(rt, begun);
     let put = put_profile(rt, profiled, &outcome, notes, told);
-    let ended = tell_end(rt, &outcome, None, time, wanted, bounds.nodes);
+    let shares = watching.take_shares(rt.alloc());
+    let ended = tell_end(rt, &outcome, None, time, wanted, &shares, bounds.nodes);
     put?;
     ended
 }
@@ -128,7 +129,16 @@ pub(crate) fn reduce_by_rounds<R: Read>(
     let reached = reduced.map_err(Failure::Stream)?;
     let time = time_since(rt, begun);
     let rounds = Some(reached.rounds);
-    tell_end(rt, &reached.outcome, rounds, time, wanted, bounds.nodes)
+    let shares = watching.take_shares(rt.alloc());
+    tell_end(
+        rt,
+        &reached.outcome,
+        rounds,
+        time,
+        wanted,
+        &shares,
+        bounds.nodes,
+    )
 }
 
 /// The same of any input and to any output. The rules are known at its end, so what is to stand
@@ -258,8 +268,8 @@ fn reduce_over<T: Threads + Sync, V: Watch, R: Read, W: Write>(
     )
 }
 
-/// Tells on standard error what is told of a reduction that took so long: figures, as far as they are wanted, a stuck pair
-/// and a circle. A terminal is told if there are rules and none was used. The answer says how it ended, where its net may have so
+/// Tells on standard error what is told of a reduction that took so long, and that threads shared so: figures, as far as they are
+/// wanted, a stuck pair and a circle. A terminal is told if there are rules and none was used. The answer says how it ended, where its net may have so
 /// many names and agents.
 pub(crate) fn tell_end(
     rt: &HostRuntime,
@@ -267,10 +277,12 @@ pub(crate) fn tell_end(
     rounds: Option<u64>,
     time: Duration,
     wanted: Wanted,
+    shares: &Shares,
     nodes: u64,
 ) -> Result<(), Failure> {
     if let Some(format) = wanted.figures {
-        tell_figures(rt, outcome, rounds, wanted.policy.workers, time, format);
+        let threads = wanted.policy.workers;
+        tell_figures(rt, outcome, rounds, threads, shares, time, format);
     }
     if let Some(pair) = &outcome.stuck {
         tell_stuck(rt, pair);
@@ -316,20 +328,22 @@ pub(crate) fn time_since(rt: &HostRuntime, begun: Option<Instant>) -> Duration {
     }
 }
 
-/// Tells on standard error how many steps were made, in how many rounds, by how many threads, how fast, and how many
-/// interactions by each rule.
+/// Tells on standard error how many steps were made, in how many rounds, by how many threads, how fast, how many
+/// interactions by each rule, and how several threads shared them.
 fn tell_figures(
     rt: &HostRuntime,
     outcome: &Outcome,
     rounds: Option<u64>,
     threads: usize,
+    shares: &Shares,
     time: Duration,
     format: FiguresFormat,
 ) {
     let millis = u64::try_from(time.as_millis()).unwrap_or(u64::MAX);
+    let alloc = rt.alloc();
     let figures = match format {
-        FiguresFormat::Lines => figures_lines(rt.alloc(), outcome, rounds, threads, millis),
-        FiguresFormat::Objects => figures_object(rt.alloc(), outcome, rounds, threads, millis),
+        FiguresFormat::Lines => figures_lines(alloc, outcome, rounds, threads, shares, millis),
+        FiguresFormat::Objects => figures_object(alloc, outcome, rounds, threads, shares, millis),
     };
     if let Ok(figures) = figures {
         let _ = rt.stderr().write_all(&figures);

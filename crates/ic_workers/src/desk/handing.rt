@@ -121,6 +121,7 @@ impl Desk {
             return Ok(None);
         }
         self.waiting.remove(&cut);
+        self.sharing.count_tree();
         Ok(Some(to))
     }
 

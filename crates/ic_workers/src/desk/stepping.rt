@@ -120,8 +120,9 @@ fn run_parts<R: Threads + Sync, C: Clock + Sync, V: Watch>(
         × AllByRecursion (IsStuck program.now) all.aside) }
     ensures within { IfOk result (λ all. all.interactions ≤ most) }
 {
-    let mut desk = Desk::new(alloc, machine)?;
+    let mut desk = Desk::new(alloc, machine, policy.workers)?;
     desk.run_in_parts(rt, clock, alloc, program, policy, gauge, most, watch)?;
+    desk.sharing.tell(watch);
     desk.put_together(alloc)
 }
 
@@ -310,7 +311,8 @@ impl Desk {
             }
             watch.saw(self.made, nodes);
             let ran = self.take_step(rt, clock, alloc, program, policy, &due, left)?;
-            gain.count(nanos(clock), ran, policy);
+            let took = gain.count(nanos(clock), ran, policy);
+            self.sharing.count_time(took, ran, policy);
             if !gain.is_enough(policy) {
                 return Ok(());
             }
@@ -347,6 +349,7 @@ impl Desk {
         self.deal(due, &mut hands)?;
         run_hands(rt, clock, alloc, program, &mut hands);
         let ran = ran_in(&hands);
+        self.sharing.count(&hands);
         self.take_all_back(hands);
         let parts = parts_of_due(alloc, due)?;
         self.meet(alloc, parts)?;
