@@ -201,8 +201,9 @@ def fault_of_names_and_rules(reader):
     pairs = [{left[0][1], right[0][1]} for left, right in reader.sides]
     for index, pair in enumerate(pairs):
         if pair in pairs[:index]:
-            told = f"rule {index + 1}: rule {pairs.index(pair) + 1} is of the same two symbols"
-            return "twice", reader.sides[index][0][0][0], told
+            at, earlier = (reader.sides[it][0][0][0] for it in (index, pairs.index(pair)))
+            before = distance(reader.text[earlier:at])
+            return "twice", at, f"rule {index + 1}: rule {pairs.index(pair) + 1}, {before} before, is of the same two symbols"
     for number, (left, right) in enumerate(reader.sides, 1):
         if left[0][1] == right[0][1] and renamed(left + right) != renamed(right + left):
             return "lopsided", left[0][0], f"rule {number}: a rule of a symbol with itself reads the same from both sides"

@@ -93,17 +93,18 @@ fn symbols_of(rule: &[u8]) -> (&[u8], &[u8]) {
     (&rule[..0], &rule[..0])
 }
 
-/// The number, from 1, of the first rule before a place that is of the same two symbols as the rule there.
-pub(crate) fn same_before(text: &[u8], at: usize) -> Option<u64> {
+/// The number, from 1, of the first rule before a place that is of the same two symbols as the rule there, and its place.
+pub(crate) fn same_before(text: &[u8], at: usize) -> Option<(u64, usize)> {
     let (front, rest) = text.split_at(at.min(text.len()));
     let (left, right) = symbols_of(rest);
     let mut number = 0u64;
     for (place, byte) in front.iter().enumerate() {
         if matches!(*byte, b'{' | b';') {
             number = number.saturating_add(1);
-            let other = symbols_of(&front[place + 1..]);
+            let rule = without_blanks(&front[place + 1..]);
+            let other = symbols_of(rule);
             if other == (left, right) || other == (right, left) {
-                return Some(number);
+                return Some((number, front.len().saturating_sub(rule.len())));
             }
         }
     }

@@ -93,9 +93,12 @@ fn count_end(again: bool, others: usize) -> &'static [u8] {
 
 /// What is amiss where a rule at a place has the symbols of one before it.
 fn twice_sentence(alloc: Global, text: &[u8], at: usize) -> Result<Vec<u8>, AllocError> {
+    let front = &text[..at.min(text.len())];
+    let (number, place) = same_before(text, at).unwrap_or((0, 0));
     let mut sentence = Vec::from_slice(alloc, b"rule ")?;
-    put_decimal(same_before(text, at).unwrap_or(0), &mut sentence)?;
-    sentence.extend_from_slice(b" is of the same two symbols")?;
+    put_decimal(number, &mut sentence)?;
+    put_distance(alloc, &front[place.min(front.len())..], &mut sentence)?;
+    sentence.extend_from_slice(b", is of the same two symbols")?;
     Ok(sentence)
 }
 
