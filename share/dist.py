@@ -24,18 +24,25 @@ GLIBC = "2.34"
 
 START = """icserve reduces interaction nets. Begin with
 
-    bin/icserve reduce examples/addition.ic     which prints <S(S(S(S(Z))))|>
-    bin/icserve help                            which tells the other commands
-    bin/icserve help language                   which tells how nets are written
+    {at}icserve reduce examples/addition.ic     which prints <S(S(S(S(Z))))|>
+    {at}icserve help                            which tells the other commands
+    {at}icserve help language                   which tells how nets are written
 
-It needs Linux on x86-64 with glibc {glibc} or later. The scripts bin/icserve-film, -listen, -send and -page need Python 3.8 or later, and
-film and pictures Graphviz. Put bin/ on the path, or copy bin/, share/ and lib/ below /usr/local. The Python package is in
-lib/python3/dist-packages. README.md and docs/ are the pages of the sources, {commit}.
+It needs Linux on x86-64 with glibc {glibc} or later. The scripts icserve-film, -listen, -send and -page beside it need Python 3.8 or
+later, and film and pictures Graphviz. {where}
+It was made from the sources {commit}, whose pages are README.md and docs/.
 
 {version}
 sources {sources}
 {proved}
 """
+
+# What else is told, by what a release is.
+ARCHIVE = """Put bin/ on the path, or copy bin/, share/ and lib/ below /usr/local. Here ./icserve,
+./film, ./listen, ./send and ./page are those in bin/, so the commands of README.md and docs/ may be typed as they stand there. The rules
+of lib/ are in share/icserve/lib. Python finds its package with PYTHONPATH=lib/python3/dist-packages."""
+PACKAGE = """The examples are in this folder, and the rules of lib/ in
+/usr/share/icserve/lib."""
 
 PROVED = "This program was built from functions each of which the Rattle kit has proved to meet its contract."
 UNPROVED = "This program was built from the same sources, but not by way of their proofs. It is slower than the proved one."
@@ -63,12 +70,12 @@ def said(*command, **env):
     return ran.stdout.strip() if ran.returncode == 0 else ""
 
 
-def told_in(name, version):
+def told_in(name, version, at, where):
     """What a release tells of itself: how to begin, and what it was made from."""
     sources = said("./icserve", ICSERVE_BUILD="sources").split(" ")[0]
     commit = said("git", "describe", "--always", "--dirty") or "of no commit"
     proved = UNPROVED if name.endswith("unproved") else PROVED
-    return START.format(glibc=GLIBC, commit=commit, version=version, sources=sources, proved=proved)
+    return START.format(at=at, where=where, glibc=GLIBC, commit=commit, version=version, sources=sources, proved=proved)
 
 
 def moment():
@@ -126,15 +133,17 @@ def main(program, name, folder):
     folder = Path(folder)
     folder.mkdir(parents=True, exist_ok=True)
     says = subprocess.run([program, "--version"], stdout=subprocess.PIPE, check=True, universal_newlines=True).stdout.strip()
-    version, told = says.split()[1], told_in(name, says)
+    version = says.split()[1]
     made = []
     with tempfile.TemporaryDirectory() as room:
         tree = Path(room, f"{name}-{version}")
         lay(program, tree)
-        (tree / "START").write_text(told)
+        (tree / "START").write_text(told_in(name, says, "./", ARCHIVE))
         shutil.copy(TOP / "README.md", tree)
-        for it in ("docs", "examples"):
+        for it in ("docs", "examples", "cluster"):
             shutil.copytree(TOP / it, tree / it)
+        for it in ("icserve", *pages.SCRIPTS):
+            (tree / it.split("-")[-1]).symlink_to(f"bin/{it}")
         made.append(folder / f"{name}-{version}-linux-x86_64.tar.gz")
         archive(tree, made[-1])
         if shutil.which("dpkg-deb"):
@@ -142,7 +151,7 @@ def main(program, name, folder):
             lay(program, root / "usr")
             doc = root / "usr/share/doc" / name
             doc.mkdir(parents=True)
-            (doc / "START").write_text(told)
+            (doc / "START").write_text(told_in(name, says, "", PACKAGE))
             shutil.copytree(TOP / "examples", doc / "examples")
             made.append(folder / f"{name}_{version}_amd64.deb")
             package(name, version, root, made[-1])

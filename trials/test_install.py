@@ -8,7 +8,7 @@ import subprocess
 import sys
 
 from program import IN_MEMORY, PROGRAM, TOP, Trial, run
-from test_pages import typed_in
+from test_pages import blocks_of, typed_in
 from test_words import words_of_help
 
 sys.path.insert(0, str(TOP / "share"))
@@ -16,6 +16,9 @@ sys.path.insert(0, str(TOP / "share"))
 from pages import SCRIPTS  # noqa: E402
 
 TOPICS = (("language",), ("limits",), ("keep",))
+
+# What there is beside a release for who has neither the kit nor a clone nor make.
+TOOLS = ("sh", "env", "cat", "echo", "head", "tail", "tr", "dot", "python3")
 
 
 def help_of(*words):
@@ -171,6 +174,8 @@ class Releases(Trial):
         subprocess.run(["tar", "-xzf", archive, "-C", self.room], check=True)
         tree = next(self.room.glob("icserve-*"))
         self.works(tree, "")
+        self.types(tree, {})
+        self.stands_alone(tree)
         wanted = run("--version").out.decode() + "sources [0-9a-f]{64}\n"
         self.assertRegex((tree / "START").read_text(), wanted.replace("(", "\\(").replace(")", "\\)"))
         package = next((self.room / "one").glob("*.deb"), None)
@@ -188,8 +193,43 @@ class Releases(Trial):
             self.equals(words, f"the status; it said {ran.stdout}", 0, ran.returncode)
             if words[0] == "--install":
                 self.works(root / "usr", "share/doc/icserve")
+                self.types(root / "usr/share/doc/icserve", {"./icserve": root / "usr/bin/icserve", "./film": root / "usr/bin/icserve-film"})
         left = [it for it in root.rglob("*") if "var" not in it.relative_to(root).parts[:1]]
         self.equals("dpkg --purge", "what is left", [], left)
+
+    def types(self, room, programs):
+        """What README.md says is typed prints in a folder what README.md says, with few other programs on the path. Servers have trials
+        of their own."""
+        tools = self.room / "tools"
+        tools.mkdir(exist_ok=True)
+        for it in TOOLS:
+            if shutil.which(it) and not (tools / it).exists():
+                (tools / it).symlink_to(shutil.which(it))
+        how = {"cwd": room, "env": {"PATH": str(tools), "PYTHONDONTWRITEBYTECODE": "1"}, "stdin": subprocess.DEVNULL, "timeout": 60}
+        typed = 0
+        for block in blocks_of("README.md"):
+            is_served = any(re.search(r"icserve serve|\./send", it) for it in block)
+            for command, wanted in [] if is_served else typed_in(block):
+                if (tools / "dot").exists() or not re.search(r"(^|\| )(dot|\./film) ", command):
+                    text = command.replace("/tmp/", f"{self.room}/")
+                    for name, program in programs.items():
+                        text = text.replace(name, str(program))
+                    ran = subprocess.run([shutil.which("sh"), "-c", text], stdout=subprocess.PIPE, stderr=subprocess.STDOUT, **how)
+                    self.equals(text, "what it prints", "".join(f"{it}\n" for it in wanted), ran.stdout.decode())
+                    typed += 1
+        self.equals("README.md", "whether commands are typed", True, typed >= 4)
+
+    def stands_alone(self, tree):
+        """In a root that has nothing but the C library the program answers, where this user may have such a root."""
+        root = self.room / "alone"
+        said = subprocess.run(["ldd", tree / "bin/icserve"], stdout=subprocess.PIPE, check=True, timeout=60).stdout.decode()
+        copied = {it: it for it in re.findall(r"(/\S+) \(", said)}
+        for at, it in {**copied, "/icserve": tree / "bin/icserve", "/addition.ic": tree / "examples/addition.ic"}.items():
+            (root / at[1:]).parent.mkdir(parents=True, exist_ok=True)
+            shutil.copy(it, root / at[1:])
+        ran = run(root, "/icserve", "reduce", "/addition.ic", program=shutil.which("chroot", path="/usr/sbin:/sbin:/usr/bin:/bin"))
+        if ran.status != 125:
+            self.equals(ran.command, "how it ends", (0, b"<S(S(S(S(Z))))|>\n", b""), ran[1:4])
 
     def works(self, root, pages):
         """Fails unless what stands below a folder works without anything of this clone."""
@@ -199,5 +239,6 @@ class Releases(Trial):
         for it in ("film", "listen", "send", "page"):
             self.equals(it, "the status of its help", 0, run("--help", program=root / f"bin/icserve-{it}", **how).status)
         script = "import icserve; print(icserve.settle('<r|r=Z>'))"
+        how["env"] = {**env, "PATH": "/usr/bin:/bin"}
         ran = run("-c", script, program=sys.executable, **how)
         self.equals(script, f"what it prints; it said {ran.err}", b"<Z|>\n", ran.out)

@@ -5,7 +5,8 @@
     >>> icserve.reduce(ADD + "<r|Add(r,S(Z))=S(Z)>").text
     '<S(S(Z))|>'
 
-The program is the one that the variable ICSERVE names, else `icserve` on the path, else that of the clone which this file is in."""
+The program is the one that the variable ICSERVE names, else `icserve` on the path, else that of the clone, the release or the install
+which this file is in."""
 
 from .nets import Answer, Film, Finding, Picture, Row, check, draw, expand, film, plot, plot_times, reduce, resume, settle, trace, version, work_and_span
 from .program import Refusal

@@ -8,7 +8,11 @@ import subprocess
 from pathlib import Path
 from typing import Any, Dict, List, NamedTuple, Optional, Sequence, Union
 
-CLONE = Path(__file__).resolve().parents[2]
+HERE = Path(__file__).resolve()
+
+# The clone in which this file is, if it is in one, and the folder into which a release or an install has put it, with its programs.
+CLONE = HERE.parents[2]
+PREFIX = HERE.parents[4] if len(HERE.parents) > 4 else HERE.parent
 
 
 class Refusal(Exception):
@@ -38,10 +42,11 @@ class Ran(NamedTuple):
 
 
 def found(name: str, variable: str, beside: str) -> str:
-    """The path of a program: what a variable names, what is on the path, or what stands in the clone."""
+    """The path of a program: what a variable names, what is on the path, or what stands in the clone or beside this package."""
     path: Optional[str] = os.environ.get(variable) or shutil.which(name)
-    if not path and os.access(CLONE / beside, os.X_OK):
-        path = str(CLONE / beside)
+    for it in (CLONE / beside, PREFIX / "bin" / name):
+        if not path and os.access(it, os.X_OK) and it.is_file():
+            path = str(it)
     if not path:
         raise FileNotFoundError(f"{name} is not on the path; set the variable {variable} to where it is")
     return path
