@@ -403,6 +403,7 @@ static void reduce(void) {
 
 /* ---- printing: free names keep their numbers, and the others follow them */
 
+/* The number of a free name, and one more than that of any other which has one. */
 static uint64_t next_number, *number_of;
 
 static void print_name(uint64_t number) {
@@ -419,8 +420,8 @@ static void print_term(word whole) {
         if (KIND(it) == FREE) {
             print_name(number_of[AT(it)]);
         } else if (KIND(it) == NAME) {
-            if (!number_of[AT(it)]) number_of[AT(it)] = next_number++;
-            print_name(number_of[AT(it)]);
+            if (!number_of[AT(it)]) number_of[AT(it)] = ++next_number;
+            print_name(number_of[AT(it)] - 1);
         } else {
             fputs(symbols[head_of(it)].text, stdout);
         }
@@ -459,7 +460,7 @@ static word freed(word term, const unsigned char *is_once) {
 static void mark_free(word from_cell, struct pair *equations, size_t count, word *interface, size_t terms) {
     unsigned char *is_once = calloc(next_name, 1);
     if (!is_once) fail("memory");
-    next_number = 1;
+    next_number = 0;
     for (size_t i = 0; i < known_room; i++) {
         if (known[i].times != 1) continue;
         is_once[AT(known[i].name)] = 1;

@@ -1,5 +1,8 @@
 """What is timed: the systems of docs/speed.md, each a text or lines with the words of the program that reads them."""
 
+import itertools
+import random
+import re
 from typing import NamedTuple
 
 ADD = "{Add(x,x)><Z;Add(S(x),y)><S(Add(x,y))}"
@@ -14,6 +17,14 @@ SORT += "Min(Z,x,x)><Z;Min(l,h,Mid(l,h,x))><S(x);Mid(Z,S(x),x)><Z;Mid(S(l),S(h),
 CHURCH = "{Lam(x,y)><App(x,y);D(x,y)><D(x,y);E(x,y)><E(x,y);D(E(a,b),E(c,d))><E(D(a,c),D(b,d));D(Lam(a,b),Lam(c,d))><Lam(D(a,c),D(b,d));"
 CHURCH += "E(Lam(a,b),Lam(c,d))><Lam(E(a,c),E(b,d));D(App(a,b),App(c,d))><App(D(a,c),D(b,d));E(App(a,b),App(c,d))><App(E(a,c),E(b,d));"
 CHURCH += "D(S(x),S(y))><S(D(x,y));E(S(x),S(y))><S(E(x,y));D(Z,Z)><Z;E(Z,Z)><Z}"
+COMMUTE = "{Gamma(x,y)><Gamma(y,x);Delta(x,y)><Delta(x,y);Eps><Eps;Eps><Gamma(Eps,Eps);Eps><Delta(Eps,Eps);"
+COMMUTE += "Gamma(Delta(a,b),Delta(c,d))><Delta(Gamma(a,c),Gamma(b,d))}"
+REVERSE = "{Rev(x,x)><Z;Rev(r,a)><S(Rev(r,S(a)))}"
+BINARY = f"{{Add(x,x)><E;Add(r,AO(r,n))><O(n);Add(r,AI(r,n))><I(n);AO(O(x),x)><E;AO(O(s),Add(s,m))><O(m);AO(I(s),Add(s,m))><I(m);"
+BINARY += "AI(I(x),x)><E;AI(I(s),Add(s,m))><O(m);AI(O(s),Add(Inc(s),m))><I(m);Inc(I(E))><E;Inc(I(x))><O(x);Inc(O(s))><I(Inc(s));"
+BINARY += f"F(E)><Z;F(r)><S(G(r));G(I(E))><Z;G(r)><S(Dup(G(Add(r,u)),F(u)));{DUP}}}"
+TREES = f"{{Add(x,x)><Z;Add(S(x),y)><S(Add(x,y));{DUP};Build(Leaf)><Z;Build(Node(l,k))><S(Dup(Build(l),Build(k)));"
+TREES += "Turn(Leaf)><Leaf;Turn(Node(l,k))><Node(Turn(k),Turn(l));Total(S(Z))><Leaf;Total(r)><Node(Total(Add(r,m)),Total(m))}"
 EATS = "{Eat(Done)><Z;Eat(r)><S(Eat(r))}"
 WALKS = "{Walk(Z)><Z;Walk(S(r))><S(Walk(r))}"
 
@@ -67,6 +78,16 @@ def church(number):
     return f"{CHURCH} <r|Lam({tree},Lam(x1,x{number + 1}))=App(Lam(E(App(p,q),App(s,p)),Lam(s,q)),App(Lam(y,S(y)),App(Z,r)))>"
 
 
+def full(symbol, levels):
+    """A full tree of agents of one symbol, with erasers at its leaves."""
+    below = full(symbol, levels - 1) if levels else ""
+    return f"{symbol}({below},{below})" if levels else "Eps"
+
+
+def reversed_often(length, times):
+    return f"{REVERSE} <r|{'Rev(' * times}r{',Z)' * times}={numeral(length)}>"
+
+
 def of_nets(size):
     """What is reduced in place, by one thread. Of those that grow fast, a part of a size lies between a least one and the whole."""
 
@@ -78,18 +99,58 @@ def of_nets(size):
         turned = turned[1::2] + turned[::-2]
         return f"{SORT} <r|Sort(r)={''.join(f'Cons({numeral(it)},' for it in turned)}Nil{')' * count}>"
 
-    chain = numeral(size(8_000))
+    chain, long, levels = numeral(size(8_000)), numeral(size(1_000_000)), less(11, 2)
     for what, given in (
         (f"{less(300, 3)} times {less(300, 3)}", f"{MULTIPLY} <r|Mul(r,{numeral(less(300, 3))})={numeral(less(300, 3))}>"),
         (f"Ackermann's function of 2 and {size(1_000):,}", f"{ACKERMANN} <r|Ack(r,{numeral(size(1_000))})={numeral(2)}>"),
         (f"Ackermann's function of 3 and {less(9, 3)}", f"{ACKERMANN} <r|Ack(r,{numeral(less(9, 3))})={numeral(3)}>"),
         (f"Fibonacci's number {less(27, 9)}", f"{FIBONACCI} <r|F(r)={numeral(less(27, 9))}>"),
         *((f"an insertion sort of {it} numbers", sort(it)) for it in (size(110), size(500))),
+        (f"combinators that commute, trees of {levels} levels", f"{COMMUTE} <|{full('Gamma', levels)}={full('Delta', levels)}>"),
+        (f"a list of {size(1_000):,}, reversed {size(1_000):,} times", reversed_often(size(1_000), size(1_000))),
         (f"Church's 2 to the power of {less(20, 5)}", church(less(20, 5))),
         (f"a chain of {size(8_000):,} agents is eaten", f"{EATS} <r|Eat(r)={chain}>"),
         (f"an agent walks along a chain of {size(8_000):,}", f"{WALKS} <r|Walk(r)={chain}>"),
+        (f"{size(1_000):,} agents each eat {size(3_000):,}", f"{EATS} <|{','.join([f'Eat(Done)={numeral(size(3_000))}'] * size(1_000))}>"),
+        (f"an agent eats {size(1_000_000):,}", f"{EATS} <r|Eat(r)={long}>"),
+        (f"an agent walks through {size(1_000_000):,}", f"{WALKS} <r|Walk(r)={long}>"),
     ):
         yield Row(f"reduce: {what}", ["reduce", "--workers", "1"], given)
+
+
+def numbers(count):
+    return range(1, count + 1)
+
+
+def tree(drawn, number):
+    """Four agents of drawn symbols, and the name of a number."""
+    pair, single, other, leaf = (f"{form}{drawn.randint(0, 9)}" for form in ("Pair", "One", "Two", "Leaf"))
+    return f"{pair}({single}(x{number}),{other}({leaf}))"
+
+
+def of_large_texts(size):
+    """Texts of some hundred million bytes, which are read, reduced and printed. Each is made as it is asked for."""
+    nodes, drawn = size(33_000_000), random.Random(1)
+    pairs, trees, sums = nodes // 4, nodes // 9, nodes // 12
+    for what, given in (
+        ("pairs of names, near each other", lambda: f"{{}} <{','.join(f'x{it},x{it}' for it in numbers(pairs))}|>"),
+        ("pairs of names, far apart", lambda: f"{{}} <{','.join(f'x{it}' for half in '12' for it in numbers(pairs))}|>"),
+        ("trees of 40 symbols and of names", lambda: f"{{}} <{','.join(f'x{it},{tree(drawn, it)}' for it in numbers(trees))}|>"),
+        ("additions", lambda: f"{ADD} <{','.join(f'x{it}' for it in numbers(sums))}|{','.join(f'Add(x{it},S(S(Z)))=S(S(Z))' for it in numbers(sums))}>"),
+        ("one agent in the other", lambda: f"{{}} <{numeral(nodes)}|>"),
+    ):
+        yield Row(f"large text: {what}", ["reduce", "--workers", "1"], given())
+
+
+def of_threads(size):
+    """What several threads reduce, by as many as stand there."""
+    nets = {it.what.partition(": ")[2]: it.given for it in of_nets(size) if re.search(r"Fib|commute|\d times \d|of 3 and|Church|sort of \d\d", it.what)}
+    number, levels = 9 + 18 * size(1_000) // 1_000, 3 + 17 * size(1_000) // 1_000
+    nets[f"Fibonacci's number {number} in binary"] = f"{BINARY} <r|F(r)={numeral(number)}>"
+    nets[f"a tree of 2^{levels} leaves, built, turned and added up"] = f"{TREES} <r|Build(Turn(Total(r)))={numeral(levels)}>"
+    for what, given in nets.items():
+        for workers in "124":
+            yield Row(f"by {workers} threads: {what}", ["reduce", "--workers", workers], given)
 
 
 def of_lines(size):
@@ -140,10 +201,10 @@ def of_lines(size):
     )
 
 
-def rows(part):
-    """All rows, with their numbers taken times this part."""
+def rows(part, others=False):
+    """The rows, or the other ones, of large texts and of several threads, with their numbers taken times this part."""
 
     def size(whole):
         return max(1, round(whole * part))
 
-    return [*of_texts(size), *of_nets(size), *of_lines(size)]
+    return itertools.chain(of_large_texts(size), of_threads(size)) if others else [*of_texts(size), *of_nets(size), *of_lines(size)]

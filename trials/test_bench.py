@@ -5,6 +5,7 @@ import re
 import shutil
 import subprocess
 import sys
+from pathlib import Path
 
 from program import PROGRAM, TOP, Trial, run
 
@@ -44,6 +45,25 @@ class Bench(Trial):
             self.equals(what, "how many figures of the plain program there are", 3 * HAS_COMPILER, len(plain))
             self.equals(what, "whether they are told", HAS_COMPILER and row.is_in_place(), "-" not in (plain or ["-"]))
 
+    def test_the_other_rows_are_timed_by_processor_time(self):
+        found = self.figures("--others --least --size 0.001 --times 1")
+        wanted = [it.what for it in rows(0.001, others=True)]
+        self.equals("make bench", "the rows", wanted, [it[0] for it in found])
+        self.equals("make bench", "whether several threads and large texts are among them", (5, True), (sum("large" in it for it in wanted), any(it.startswith("by 4 threads") for it in wanted)))
+        for what, *cells in found:
+            self.equals(what, "whether it has figures", True, all(re.fullmatch(r"[\d,.]+", it) for it in cells))
+
+    def test_texts_of_rows_are_written(self):
+        command = [sys.executable, TOP / "bench", PROGRAM, "--write", self.room / "texts", "--size", "0.01", "--only", "reduce"]
+        ran = subprocess.run([str(it) for it in command], capture_output=True, text=True, timeout=120)
+        self.equals(command, "status and standard error", (0, ""), (ran.returncode, ran.stderr))
+        chosen = [it for it in rows(0.01) if "reduce" in it.what]
+        for row, line in zip(chosen, ran.stdout.splitlines()):
+            path = line.partition(": ")[0]
+            self.holds(Path(path), row.given.encode())
+            self.equals(path, "what is told of it", f"{path}: {row.what}: icserve {' '.join(row.words)} < {path}", line)
+        self.equals(command, "how many are told", len(chosen), len(ran.stdout.splitlines()))
+
     def test_each_figure_of_a_server_is_printed(self):
         (self.room / "trials").mkdir()
         for it in ("listen", "trials/shim.c"):
@@ -75,7 +95,7 @@ class Bench(Trial):
         for path in sorted((TOP / "examples").glob("*.ic")):
             text = path.read_bytes()
             wanted = run("reduce", "--steps", "100000", given=text)
-            if wanted.out.endswith(b"|>\n") and not wanted.status and not re.search(rb"[<(,][a-z]", wanted.out):
+            if wanted.out.endswith(b"|>\n") and not wanted.status:
                 came = run(given=text, program=plain)
                 self.equals(came.command, "what it prints", (0, wanted.out), (came.status, came.out))
 
