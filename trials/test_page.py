@@ -66,8 +66,16 @@ class Calls(Trial):
             self.equals("reduce", "what is stuck", ("Ad><Z", None), (stuck["stuck"], stuck["circle"]))
             circle = page.call("reduce", text="{} <r|Add(r,x)=x>")["came"]
             self.equals("reduce", "the circle", (None, "Add"), (circle["stuck"], circle["circle"]))
-            names = sorted(it.stem for it in (TOP / "examples").glob("*.ic"))
-            self.equals("examples", "their names", names, sorted(page.call("examples")["came"]["examples"]))
+
+    def test_examples_and_the_library_are_there_and_each_is_read(self):
+        names = [it.stem for it in (TOP / "examples").glob("*.ic")] + [it.name for it in (TOP / "examples").glob("*.rich")]
+        names += [f"lib/{it.name}" for it in (TOP / "lib").glob("*.rich")]
+        with Page() as page:
+            came = page.call("examples")["came"]["examples"]
+            self.equals("examples", "their names", sorted(names), sorted(came))
+            for name, text in came.items():
+                faults = [it["told"] for it in page.call("check", text=text)["came"]["findings"] if it["is_fault"]]
+                self.equals(name, "its faults", [], faults)
 
     def test_what_a_limit_ends_is_told(self):
         with Page() as page:
@@ -137,6 +145,17 @@ class Steps(Trial):
                 net = page.call("on", text=text, config=net["config"], by="round")["came"]
                 wanted = run("reduce", "--rounds", number, given=text).out.decode().strip()
                 self.equals(f"round {number}", "the net as a graph", *(self.graph(text, it) for it in (wanted, net["config"])))
+
+    def test_rich_texts_are_stepped_through_in_their_plain_form(self):
+        with Page() as page:
+            for path in (TOP / "examples/addition.rich", TOP / "examples/sk.rich", TOP / "lib/bool.rich"):
+                text = path.read_text()
+                net = page.call("begin", text=text)["came"]
+                for _ in range(200):
+                    if net["pairs"]:
+                        net = page.call("on", text=text, config=net["config"], by="round")["came"]
+                wanted = run("reduce", "--plain", path).out.decode().strip()
+                self.equals(path, "the last net", (wanted, 0), (net["config"], net["pairs"]))
 
     def graph(self, text, config):
         """The net without its names."""

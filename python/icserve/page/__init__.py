@@ -36,8 +36,9 @@ GRAPH = 60_000
 # A call's body is at most this: its text, of which each byte may take six, and what else it says.
 BODY = 6 * BYTES + 10_000
 
-# Where examples are: those of the clone or archive, or of the package of Debian.
+# Where examples are, and the library: those of the clone or archive, or of the package of Debian.
 EXAMPLES = [HERE.parents[2] / "examples", HERE.parents[4] / "examples", Path("/usr/share/doc/icserve/examples")]
+LIBRARY = [HERE.parents[2] / "lib", HERE.parents[4] / "share/icserve/lib", Path("/usr/share/icserve/lib")]
 
 # The page takes its own scripts and styles alone, pictures that it makes itself, and films in a frame.
 POLICY = "default-src 'none'; script-src 'self'; style-src 'self'; connect-src 'self'; img-src blob:; frame-src 'self'; base-uri 'none'; form-action 'none'; frame-ancestors 'none'"
@@ -114,21 +115,31 @@ def draw(asked: Dict[str, Any]) -> Dict[str, Any]:
 def begin(asked: Dict[str, Any]) -> Dict[str, Any]:
     """The settled configuration of a text, from which steps and rounds go on, and its net."""
     limited(asked["text"], "draw").well()
-    rules = rules_of(asked["text"])
-    return at(rules, settled(asked["text"][len(rules) :]))
+    text = plain(asked["text"])
+    rules = rules_of(text)
+    return at(rules, settled(text[len(rules) :]))
 
 
 def go_on(asked: Dict[str, Any]) -> Dict[str, Any]:
     """The configuration after one interaction or one round, settled, the rules that have fired, and its net."""
-    rules, config = rules_of(asked["text"]), asked["config"]
+    rules, config = rules_of(plain(asked["text"])), asked["config"]
     if asked["by"] == "step":
-        answer = answer_of(limited(rules + config, "reduce", "--plain", "--partial", "--stats", "--format", "json", "--steps", 1, "--workers", 1))
+        answer = answer_of(limited(rules + config, "reduce", "--partial", "--stats", "--format", "json", "--steps", 1, "--workers", 1))
         after, fired = answer.text, [it for it, count in (answer.by_rule or {}).items() if count]
     elif asked["by"] == "round":
-        after, fired = limited(rules + config, "once", "--plain").well().out.strip(), []
+        after, fired = limited(rules + config, "once").well().out.strip(), []
     else:
         raise Unasked
     return {**at(rules, settled(after)), "fired": fired}
+
+
+def is_rich(text: str) -> bool:
+    return text.split("\n", 1)[0].split()[:1] == ["#rich"]
+
+
+def plain(text: str) -> str:
+    """The text of the calculus for which a rich one stands; any other as it is."""
+    return limited(text, "expand").well().out if is_rich(text) else text
 
 
 def settled(config: str) -> str:
@@ -152,10 +163,23 @@ def at(rules: str, config: str) -> Dict[str, Any]:
         return {"config": config, "pairs": len(pairs), "svg": "", "limit": str(limit)}
 
 
+def files(places: List[Path], pattern: str) -> List[Path]:
+    """The files of the first of these folders that is there."""
+    folder = next((it for it in places if it.is_dir()), None)
+    return sorted(folder.glob(pattern)) if folder else []
+
+
+def rich(path: Path) -> str:
+    """A rich text that says so by itself."""
+    text = path.read_text()
+    return text if is_rich(text) else "#rich\n" + text
+
+
 def examples(_: Dict[str, Any]) -> Dict[str, Any]:
-    folder = next((it for it in EXAMPLES if it.is_dir()), None)
-    files = sorted(folder.glob("*.ic")) if folder else []
-    return {"examples": {it.stem: it.read_text() for it in files}}
+    found = {it.stem: it.read_text() for it in files(EXAMPLES, "*.ic")}
+    found.update((it.name, rich(it)) for it in files(EXAMPLES, "*.rich"))
+    found.update((f"lib/{it.name}", rich(it)) for it in files(LIBRARY, "*.rich"))
+    return {"examples": found}
 
 
 class Page:

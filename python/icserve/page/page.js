@@ -40,7 +40,7 @@ function made(name, text, fields) {
 function findingOf(it, lines) {
   const item = made("li", undefined, { className: it.is_fault ? "fault" : "warning" });
   if (!it.line) {
-    item.append(made("span", "warning: " + it.told));
+    item.append(made("span", (it.is_fault ? "" : "warning: ") + it.told));
     return item;
   }
   const button = made("button", `line ${it.line}, column ${it.column}: ${it.told}`);
