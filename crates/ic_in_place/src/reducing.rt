@@ -73,32 +73,33 @@ pub struct Stopped {
 /// reached then has its names numbered anew.
 pub fn reduce_in_place<V: Watch>(
     alloc: Global,
-    system: &WideSystem,
+    system: WideSystem,
     bounds: Bounds,
     watch: &V,
 ) -> Result<Reduced, AllocError>
-    ensures { IfOk result (IsReducedTo system.now bounds) }
+    ensures { IfOk result (IsReducedTo system bounds) }
 {
-    let stopped = run_system(alloc, system, bounds, watch)?;
+    let stopped = run_system(alloc, &system, bounds, watch)?;
     let reduced = read_stopped(alloc, system, stopped)?;
     Ok(reduced)
 }
 
-/// Reads back what a machine holds that began with the configuration of a system, and numbers its names anew.
+/// Reads back what a machine holds that began with the configuration of a system, and numbers its names anew. The memory of
+/// that configuration is free by then.
 pub fn read_stopped(
     alloc: Global,
-    system: &WideSystem,
+    system: WideSystem,
     stopped: Stopped,
 ) -> Result<Reduced, AllocError>
     ensures read { IfOk result (λ reduced. (bounds : AnyBounds)
-        (come : HasCome system.now bounds stopped.given.items stopped.by_rule.items
+        (come : HasCome system bounds stopped.given.items stopped.by_rule.items
         stopped.machine stopped.end)
         → (answer : Configuration)
-        × IsReached system.now bounds answer reduced.end reduced.interactions reduced.by_rule.items
+        × IsReached system bounds answer reduced.end reduced.interactions reduced.by_rule.items
         × IsPutTogether answer
-        × TellsNameSteps system.now.rules.rules system.now.config reduced.interactions
+        × TellsNameSteps system.rules.rules system.config reduced.interactions
         (length answer.equations) reduced.end reduced.name_steps
-        × Writes system.now.rules.symbols reduced.words.items reduced.terms reduced.equations answer
+        × Writes system.rules.symbols reduced.words.items reduced.terms reduced.equations answer
         × IsNetOf come.held.numbers stopped.machine answer) }
     ensures interactions { IfOk result
         (λ reduced. reduced.interactions ≡ stopped.machine.interactions) }
@@ -124,18 +125,18 @@ pub fn read_stopped(
 /// Reads back what a machine holds that began with the configuration of a system. Its names have any numbers.
 pub(crate) fn read_words(
     alloc: Global,
-    system: &WideSystem,
+    system: WideSystem,
     stopped: Stopped,
 ) -> Result<Reduced, AllocError>
     ensures read { IfOk result (λ read. (bounds : AnyBounds)
-        (come : HasCome system.now bounds stopped.given.items stopped.by_rule.items
+        (come : HasCome system bounds stopped.given.items stopped.by_rule.items
         stopped.machine stopped.end)
         → (answer : Configuration)
-        × IsReached system.now bounds answer read.end read.interactions read.by_rule.items
+        × IsReached system bounds answer read.end read.interactions read.by_rule.items
         × IsPutTogether answer
-        × TellsNameSteps system.now.rules.rules system.now.config read.interactions
+        × TellsNameSteps system.rules.rules system.config read.interactions
         (length answer.equations) read.end read.name_steps
-        × WritesAlike system.now.rules.symbols read.words.items read.terms read.equations answer
+        × WritesAlike system.rules.symbols read.words.items read.terms read.equations answer
         × IsNetOf come.held.numbers stopped.machine answer) }
     ensures interactions { IfOk result
         (λ read. read.interactions ≡ stopped.machine.interactions) }
@@ -150,16 +151,19 @@ pub(crate) fn read_words(
     ic_reaching::laws::what_is_reached_goes_on();
     ic_reaching::laws::what_is_reached_quiet_is_the_end_of_every_order();
     ic_reaching::laws::where_names_begin_is_all_that_differs();
+    let (rules, config) = system.into_parts();
+    let equations = config.equations_len();
+    drop(config);
     let interactions = stopped.machine.interactions();
     let left = stopped.machine.equations_left();
     let (nodes, shared, end) = (stopped.nodes, stopped.shared, stopped.end);
     let read = read_back(alloc, stopped.machine)?;
-    let symbols = system.rules().symbols();
+    let symbols = rules.symbols();
     let words = words_of(alloc, symbols, &stopped.given, &read.tokens)?;
     let name_steps = name_steps_at(
         end,
-        system.config().equations_len(),
-        system.rules().rules(),
+        equations,
+        rules.rules(),
         &stopped.by_rule,
         interactions,
         read.equations,

@@ -111,18 +111,18 @@ pub fn reduce_by_rounds<V: Watch, S: Rows<W>, W: Write>(
 /// one is over. What was reached then has its names numbered anew. Answers how many rounds are over, too.
 pub fn round_in_place<V: Watch>(
     alloc: Global,
-    system: &WideSystem,
+    system: WideSystem,
     bounds: RoundBounds,
     enough: u64,
     watch: &V,
 ) -> Result<(Reduced, u64), AllocError>
     ensures { IfOk result
-        (λ made. IsRoundedTo system.now bounds.rounds enough made.1 made.0) }
+        (λ made. IsRoundedTo system bounds.rounds enough made.1 made.0) }
 {
     let mut none: Vec<u8> = Vec::new(alloc);
     let mut rows = NoRows;
     let enough = Some(enough);
-    match round_system(alloc, system, bounds, enough, watch, &mut rows, &mut none) {
+    match round_system(alloc, &system, bounds, enough, watch, &mut rows, &mut none) {
         Ok((stopped, taken)) => read_rounded(alloc, system, stopped, taken),
         Err(_) => Err(AllocError),
     }
@@ -131,15 +131,15 @@ pub fn round_in_place<V: Watch>(
 /// What a machine holds that has made rounds, and how many were made where it has taken so many.
 fn read_rounded(
     alloc: Global,
-    system: &WideSystem,
+    system: WideSystem,
     stopped: Stopped,
     taken: u64,
 ) -> Result<(Reduced, u64), AllocError>
     ensures { (rounds enough most : ℕ)
         → MayEnd rounds (Some enough) most stopped.machine.interactions
-        → HasRounded system.now most taken stopped.given.items stopped.by_rule.items
+        → HasRounded system most taken stopped.given.items stopped.by_rule.items
         stopped.machine stopped.end
-        → IfOk result (λ made. IsRoundedTo system.now rounds enough made.1 made.0) }
+        → IfOk result (λ made. IsRoundedTo system rounds enough made.1 made.0) }
 {
     ic_reaching::laws::one_net_is_an_equivalence();
     ic_reaching::laws::what_is_reached_is_one_net();

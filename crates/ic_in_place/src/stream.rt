@@ -155,11 +155,11 @@ pub fn stopped_line(
         return Ok((Vec::new(alloc), outcome));
     }
     let shared = stopped.shared;
-    let reduced = read_stopped(alloc, &system, stopped)?;
-    let symbols = system.rules().symbols();
+    let rules = system.rules().clone()?;
+    let reduced = read_stopped(alloc, system, stopped)?;
+    let symbols = rules.symbols();
     let line = line_reached(alloc, symbols, &reduced, asked)?;
     let at_end = left_at_end(alloc, symbols, &reduced)?;
-    let (rules, _) = system.into_parts();
     let outcome = Outcome {
         end: reduced.end,
         interactions: reduced.interactions,
@@ -247,9 +247,9 @@ fn read_unwritten(
     ensures end { IfOk result (λ outcome. outcome.end ≡ stopped.end) }
 {
     let shared = stopped.shared;
-    let read = read_words(alloc, &system, stopped)?;
-    let at_end = left_at_end(alloc, system.rules().symbols(), &read)?;
-    let (rules, _) = system.into_parts();
+    let rules = system.rules().clone()?;
+    let read = read_words(alloc, system, stopped)?;
+    let at_end = left_at_end(alloc, rules.symbols(), &read)?;
     Ok(Outcome {
         end: read.end,
         interactions: read.interactions,

@@ -476,13 +476,13 @@ impl<T: Threads + Sync, C: Clock + Sync, V: Watch> Run<'_, T, C, V> {
     /// many interactions are made, unless it ends sooner. Tells how many rounds were made.
     fn reduce_piece(
         &self,
-        system: &WideSystem,
+        system: WideSystem,
         rounds: Option<u64>,
         bounds: Bounds,
         watch: &Timed<'_, C, V>,
     ) -> Result<(Reduced, u64), AllocError>
         ensures made { IfOk result (λ made.
-            IsMade system.now bounds self.now.rounds rounds made.0 made.1) }
+            IsMade system bounds self.now.rounds rounds made.0 made.1) }
         ensures few { IfOk result (λ made. (over : ℕ) → rounds ≡ Some over
             → over + made.1 < 2 ^ 64) }
     {
@@ -564,7 +564,7 @@ impl<T: Threads + Sync, C: Clock + Sync, V: Watch> Run<'_, T, C, V> {
         let system = system_of(self.alloc, rules, words, state.terms)?;
         systems_are_sound(&system);
         let timed = Timed::new(self.clock, self.watch, state.interactions);
-        let (reduced, made) = self.reduce_piece(&system, state.rounds, bounds, &timed)?;
+        let (reduced, made) = self.reduce_piece(system, state.rounds, bounds, &timed)?;
         let over = rounds_over(state.rounds, made);
         state.rounds = rounds_between(state.rounds, self.rounds, reduced.end, over);
         let all = millis_of(self.clock).saturating_sub(begun);

@@ -111,14 +111,14 @@ pub fn reduce_by_workers<T: Threads + Sync, C: Clock + Sync, V: Watch>(
     rt: &T,
     clock: &C,
     alloc: Global,
-    system: &WideSystem,
+    system: WideSystem,
     policy: Policy,
     bounds: Bounds,
     watch: &V,
 ) -> Result<Reduced, AllocError>
-    ensures { IfOk result (IsReducedTo system.now bounds) }
+    ensures { IfOk result (IsReducedTo system bounds) }
 {
-    let stopped = run_or_run_anew(rt, clock, alloc, system, policy, bounds, watch)?;
+    let stopped = run_or_run_anew(rt, clock, alloc, &system, policy, bounds, watch)?;
     let reduced = read_stopped(alloc, system, stopped)?;
     Ok(reduced)
 }

@@ -11,6 +11,6 @@ returns-clause-read c = λ bounds come.
       read.1,
       read.2,
       read.3,
-      numbered_so c.args.system.now.rules.symbols _ _ _ _ read.0 words read.4,
+      numbered_so c.args.system.rules.symbols _ _ _ _ read.0 words read.4,
       read.5,
     )

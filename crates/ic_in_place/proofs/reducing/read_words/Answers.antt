@@ -32,7 +32,7 @@ use Rattle.ic_in_place.proofs.reducing.read_words.Goals as goal
 
 pub returns-clause-read : goal.returns-clause-read
 returns-clause-read c = λ bounds stopped.
-    let s = c.args.system.now in
+    let s = c.args.system in
     let m = c.args.stopped.machine in
     let end = c.args.stopped.end in
     let given = c.args.stopped.given.items in
@@ -40,7 +40,7 @@ returns-clause-read c = λ bounds stopped.
     let held = stopped.held in
     let n = held.numbers in
     let sound = stopped.sound in
-    let symbols : c.symbols-symbols.result.now ≡ s.rules.symbols = c.symbols-symbols.ensures.symbols ∙ ap (λ (r : Rules). r.symbols) (c.deref.ensures ∙ c.rules.ensures.rules) in
+    let symbols : c.symbols-symbols.result.now ≡ s.rules.symbols = c.symbols-symbols.ensures.symbols ∙ ap (λ (r : Rules). r.symbols) (c.deref.ensures ∙ c.into_parts-rules.ensures.rules) in
     let laws : AnswerLaws = record {
       other_way = c.one_net_is_an_equivalence.ensures.other_way;
       through = c.one_net_is_an_equivalence.ensures.through;
@@ -87,10 +87,10 @@ returns-clause-read c = λ bounds stopped.
     let by_rule : List ℕ = c.args.stopped.by_rule.items in
     let rs : Rules = s.rules in
     let interactions : c.interactions-interactions.result ≡ length fired = c.interactions-interactions.ensures ∙ answer.0.counted in
-    let given_equations : c.equations_len.result ≡ length s.config.equations =
-    c.equations_len.ensures.equations ∙ ap (λ (d : Configuration). length d.equations) c.config.ensures.config in
-    let rules_are : c.rules-3.result.now ≡ rs.rules =
-    c.rules-3.ensures.rules ∙ ap (λ (r : Rules). r.rules) (c.deref-4.ensures ∙ c.rules-2.ensures.rules) in
+    let given_equations : c.equations_len-equations.result ≡ length s.config.equations =
+    c.equations_len-equations.ensures.equations ∙ ap (λ (d : Configuration). length d.equations) c.into_parts-rules.ensures.config in
+    let rules_are : c.rules.result.now ≡ rs.rules =
+    c.rules.ensures.rules ∙ ap (λ (r : Rules). r.rules) (c.deref-4.ensures ∙ c.into_parts-rules.ensures.rules) in
     let by_rule_is : c.deref-5.result.now ≡ by_rule = c.deref-5.ensures.value in
     let reached : Reaches rs.rules s.config d fired = answer.0.reached in
     let counting : CountLaws = record {
@@ -107,7 +107,7 @@ returns-clause-read c = λ bounds stopped.
     sound.rules sound.over sound.names
     (c.what_is_reached_quiet_is_the_end_of_every_order.ensures.end rs s.config d fired sound.rules sound.over sound.names reached still)
     answer.0.counts in
-    let made : made_from c.rules-3.result.now c.deref-5.result.now 0 ≡ made_from rs.rules by_rule 0 =
+    let made : made_from c.rules.result.now c.deref-5.result.now 0 ≡ made_from rs.rules by_rule 0 =
     (λ i. made_from (rules_are i) (by_rule_is i) 0) in
     let left = answer.2 in (
       steps.0,

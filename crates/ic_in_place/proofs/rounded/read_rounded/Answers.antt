@@ -31,8 +31,8 @@ returns c = λ rounds enough most may rounded.
       together = c.what_is_put_together_has_no_name_step.ensures;
     } in
     let read = told.read rounded.bounds rounded.come in
-    let all = read_so c.args.system.now most c.args.taken stopped.given.items stopped.machine reduced stopped.by_rule.items reduced.by_rule.items stopped.end reduced.end
+    let all = read_so c.args.system most c.args.taken stopped.given.items stopped.machine reduced stopped.by_rule.items reduced.by_rule.items stopped.end reduced.end
     (sym told.by_rule) (sym told.end) (rounded, read.0, read.1, read.2, read.3, read.4, read.5) in
-    rounded_to lines laws c.what_is_reached_quiet_is_the_end_of_every_order.ensures.rounds c.args.system.now rounds enough most c.args.taken c.rounds_made-rounds.result
+    rounded_to lines laws c.what_is_reached_quiet_is_the_end_of_every_order.ensures.rounds c.args.system rounds enough most c.args.taken c.rounds_made-rounds.result
     stopped.given.items stopped.machine reduced
     (subst (λ (n : ℕ). MayEnd rounds (Some enough) most n) (sym told.interactions) may) all c.rounds_made-rounds.ensures

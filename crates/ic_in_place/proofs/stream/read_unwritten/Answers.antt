@@ -10,7 +10,7 @@ left_at_end-requires-clause-whole c = (c.in_ok-read.ensures.read c.requires.0 c.
 
 pub left_at_end-requires-clause-over : goal.left_at_end-requires-clause-over
 left_at_end-requires-clause-over c =
-    let same = c.symbols.ensures.symbols ∙ ap (λ (r : Rules). r.symbols) (c.deref.ensures ∙ c.rules.ensures.rules) in
+    let same = c.symbols.ensures.symbols ∙ ap (λ (r : Rules). r.symbols) (c.deref.ensures ∙ c.in_ok-rules.ensures.cases ∙ c.rules.ensures.rules) in
     subst (λ ss. IsTrue (list_all (is_word_over ss) c.in_ok-read.read.words.items)) (sym same) (c.in_ok-read.ensures.read c.requires.0 c.requires.1).4.over
 
 pub left_at_end-requires-clause-counted : goal.left_at_end-requires-clause-counted
@@ -20,13 +20,13 @@ pub returns-clause-told : goal.returns-clause-told
 returns-clause-told c = λ bounds come.
     let to = c.in_ok-read.read in
     let read = c.in_ok-read.ensures.read bounds come in
-    let same = c.symbols.ensures.symbols ∙ ap (λ (r : Rules). r.symbols) (c.deref.ensures ∙ c.rules.ensures.rules) in (
+    let same = c.symbols.ensures.symbols ∙ ap (λ (r : Rules). r.symbols) (c.deref.ensures ∙ c.in_ok-rules.ensures.cases ∙ c.rules.ensures.rules) in (
       record {
         answer = read.0;
         reached = read.1;
         name_steps = read.3;
         stuck = stuck_alike to.end _ _ _ _ _ read.0 _ c.in_ok-at_end.ensures same read.4;
-        rules = c.into_parts-rules.ensures.rules;
+        rules = c.in_ok-rules.ensures.cases ∙ c.rules.ensures.rules;
       },
       read.5,
     )

@@ -17,7 +17,7 @@ line_reached-requires-clause-whole c = (c.in_ok-reduced.ensures.read c.requires.
 
 pub line_reached-requires-clause-over : goal.line_reached-requires-clause-over
 line_reached-requires-clause-over c =
-    let same = c.symbols-symbols.ensures.symbols ∙ ap (λ (r : Rules). r.symbols) (c.deref.ensures ∙ c.rules.ensures.rules) in
+    let same = c.symbols-symbols.ensures.symbols ∙ ap (λ (r : Rules). r.symbols) (c.deref.ensures ∙ c.in_ok-rules.ensures.cases ∙ c.rules.ensures.rules) in
     subst (λ ss. IsTrue (list_all (is_word_over ss) c.in_ok-reduced.reduced.words.items)) (sym same) (c.in_ok-reduced.ensures.read c.requires.0 c.requires.1).4.over
 
 pub line_reached-requires-clause-counted : goal.line_reached-requires-clause-counted
@@ -28,7 +28,7 @@ left_at_end-requires-clause-whole c = (c.in_ok-reduced.ensures.read c.requires.0
 
 pub left_at_end-requires-clause-over : goal.left_at_end-requires-clause-over
 left_at_end-requires-clause-over c =
-    let same = c.symbols-symbols.ensures.symbols ∙ ap (λ (r : Rules). r.symbols) (c.deref.ensures ∙ c.rules.ensures.rules) in
+    let same = c.symbols-symbols.ensures.symbols ∙ ap (λ (r : Rules). r.symbols) (c.deref.ensures ∙ c.in_ok-rules.ensures.cases ∙ c.rules.ensures.rules) in
     subst (λ ss. IsTrue (list_all (is_word_over ss) c.in_ok-reduced.reduced.words.items)) (sym same) (c.in_ok-reduced.ensures.read c.requires.0 c.requires.1).4.over
 
 pub left_at_end-requires-clause-counted : goal.left_at_end-requires-clause-counted
@@ -38,7 +38,7 @@ pub returns-clause-of : goal.returns-clause-of
 returns-clause-of c = λ bounds come.
     let s = c.args.system in
     let reduced = c.in_ok-reduced.reduced in
-    let same = c.symbols-symbols.ensures.symbols ∙ ap (λ (r : Rules). r.symbols) (c.deref.ensures ∙ c.rules.ensures.rules) in
+    let same = c.symbols-symbols.ensures.symbols ∙ ap (λ (r : Rules). r.symbols) (c.deref.ensures ∙ c.in_ok-rules.ensures.cases ∙ c.rules.ensures.rules) in
     let ss = c.symbols-symbols.result.now in
     let read = c.in_ok-reduced.ensures.read bounds come in (
       record {
@@ -51,7 +51,7 @@ returns-clause-of c = λ bounds come.
         together = λ written. read.2;
         prints = line_so c.args.asked reduced.end ss s.rules.symbols reduced.words.items reduced.terms read.0 _ c.in_ok-line.ensures same read.4.written;
         stuck = stuck_so reduced.end ss s.rules.symbols reduced.words.items reduced.terms read.0 _ c.in_ok-at_end.ensures same read.4.written;
-        rules = c.into_parts-rules.ensures.rules;
+        rules = c.in_ok-rules.ensures.cases ∙ c.rules.ensures.rules;
       },
       read.5,
     )
