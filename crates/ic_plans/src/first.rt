@@ -137,6 +137,7 @@ fn give_registers(
     let marks = single.as_slice();
     let given = singles_of(alloc, different, marks)?;
     let others = firsts.len() - given.len();
+    drop(firsts);
     let middle = start + given.len() as u32;
     let numbers = number_marks(alloc, marks, start, middle)?;
     let table = numbers.as_slice();
