@@ -43,6 +43,17 @@ class Hosts:
             started.kill()
             started.wait()
 
+    def two_hosts(self, found):
+        """Two servers of ssh which share the trial's folder, and the words by which GNU parallel runs programs there."""
+        hosts = [self.ssh_host(found, name) for name in ("one", "two")]
+        (self.room / "ssh").write_text(f'#!/bin/sh\nexec {found["ssh"]} -F {self.room}/ssh_config "$@"\n')
+        (self.room / "ssh").chmod(0o755)
+        return hosts, ["--ssh", self.room / "ssh", "--sshlogin", "2/one,2/two", "--workdir", self.room, "--env", "ICSERVE"]
+
+    def hosts_used(self):
+        """The hosts that GNU parallel has noted in its joblog."""
+        return {it.split("\t")[1] for it in (self.room / "jobs.log").read_text().splitlines()[1:]}
+
     def ssh_host(self, found, name):
         """Starts a server of ssh on 127.0.0.1 with a port and a key of its own."""
         keys = {"host": self.room / f"{name}.key", "user": self.room / "user.key"}

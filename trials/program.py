@@ -232,6 +232,22 @@ class Trial(unittest.TestCase):
         self.room = Path(tempfile.mkdtemp(prefix="trial-", dir=self.rooms))
         self.addCleanup(shutil.rmtree, self.room, ignore_errors=True)
 
+    @contextlib.contextmanager
+    def device(self, size):
+        """A device in memory of so many bytes, which is taken away at the end. A trial that asks for it is skipped where none can
+        be had."""
+        if os.geteuid() or not shutil.which("mount"):
+            self.skipTest("a device in memory takes root and mount")
+        folder = self.room / "device"
+        folder.mkdir()
+        made = subprocess.run(["mount", "-t", "tmpfs", "-o", f"size={size}", "tmpfs", folder], stderr=subprocess.PIPE)
+        if made.returncode:
+            self.skipTest(f"no device in memory can be had: {made.stderr.decode(errors='replace')}")
+        try:
+            yield folder
+        finally:
+            subprocess.run(["umount", folder], check=True)
+
     def draws(self, about=""):
         """The numbers that this trial draws from, which the seed fixes."""
         self.drawn = f"drawn with SEED={SEED}"

@@ -10,6 +10,7 @@ from hosts import Hosts, free_port
 from known import ADD, LOOP
 from program import PATIENCE, PROGRAM
 from shards import SCRIPTS, Shards, drawn_jobs, numeral
+from texts import Texts, drawn_text
 
 SHARDS = 40
 MOST_ROUNDS = 2000
@@ -67,17 +68,57 @@ class Parallel(Thousand):
         """The hosts are two servers of ssh on ports of their own, which share the trial's folder."""
         found = self.wants("sshd", "ssh", "ssh-keygen", "parallel")
         self.cut_thousand()
-        hosts = [self.ssh_host(found, name) for name in ("one", "two")]
-        (self.room / "ssh").write_text(f'#!/bin/sh\nexec {found["ssh"]} -F {self.room}/ssh_config "$@"\n')
-        (self.room / "ssh").chmod(0o755)
-        words = ["--ssh", self.room / "ssh", "--sshlogin", "2/one,2/two", "--workdir", self.room, "--env", "ICSERVE"]
+        hosts, words = self.two_hosts(found)
         begun = lambda: self.parallel(*words, of_shards=["--every", 10])
         kills = self.killed_often(begun, 10, self.draws("kills"), 1)
         self.equals("40 shards", f"at least eight kills in their midst: {kills}", True, kills >= 8)
-        used = {it.split("\t")[1] for it in (self.room / "jobs.log").read_text().splitlines()[1:]}
-        self.equals("40 shards", "the hosts that ran them", {"one", "two"}, used)
+        self.equals("40 shards", "the hosts that ran them", {"one", "two"}, self.hosts_used())
         self.gathers(self.lines, MOST_ROUNDS)
         self.equals("the servers of ssh", "whether they still run", [None, None], [it.poll() for it in hosts])
+
+
+class LargeOnes(Hosts, Texts):
+    """Texts of 10^6 to 10^7 interactions."""
+
+    seconds = 200
+
+    def test_20_texts_over_two_hosts_killed_at_five_moments(self):
+        """With all that ran on the hosts: of a killed engine they end what they run after some seconds."""
+        found = self.wants("sshd", "ssh", "ssh-keygen", "parallel")
+        draw = self.draws()
+        texts = {f"text{it:02}": drawn_text(draw) for it in range(20)}
+        self.write(texts)
+        hosts, words = self.two_hosts(found)
+        command = ["parallel", "--will-cite", "--memfree", "200M", "--joblog", "jobs.log", "--resume-failed", *words, SCRIPTS / "large", "{}", "--seconds", "1"]
+        begun = lambda: self.engine(*command, ":::", *(f"texts/{it}.ic" for it in texts))  # noqa: E731
+        killed = 0
+        for moment in range(5):
+            with begun() as engine:
+                self.waits_for(lambda: engine.ended() is not None or self.answered_texts() >= 3 * moment)
+                time.sleep(draw.random())
+                killed += engine.ended() is None
+        self.ends_well(begun)
+        self.equals("20 texts", f"at least four kills in their midst: {killed}", True, killed >= 4)
+        self.equals("20 texts", "the hosts that ran them", {"one", "two"}, self.hosts_used())
+        self.end_as_unbroken(texts)
+        self.equals("the servers of ssh", "whether they still run", [None, None], [it.poll() for it in hosts])
+
+    def test_a_text_on_a_device_that_fills_goes_on_once_there_is_room(self):
+        draw = self.draws()
+        texts = {"one": drawn_text(draw)}
+        with self.device(2**20) as folder:
+            (self.room / "texts").symlink_to(folder)
+            (folder / "one.ic").write_text(texts["one"] + "\n")
+            ran = self.script("large", "texts/one.ic", "--steps", "100")
+            self.equals(ran.command, f"status; it said {ran.err}", 5, ran.status)
+            for pages in (0, 1, 2):
+                has = os.statvfs(folder)
+                (folder / "more").write_bytes(bytes((has.f_bavail - pages) * has.f_frsize))
+                ran = self.script("large", "texts/one.ic")
+                self.equals(ran.command, f"status where {pages} pages are free; it said {ran.err}", True, ran.status in (3, 4))
+                (folder / "more").unlink()
+            self.ended(self.script("large", "texts/one.ic"))
+            self.end_as_unbroken(texts)
 
 
 # A controller and a node of Slurm on this machine alone, in a folder of their own.

@@ -1,13 +1,11 @@
 """A reduction that is kept in two files (`reduce --keep`, `reduce --resume`) goes on after any stop, with the answer and the
 counts of one that isn't stopped. Files that hold something else are refused, and stay as they are."""
 
-import contextlib
 import itertools
 import json
 import os
 import resource
 import shlex
-import shutil
 import signal
 import struct
 import subprocess
@@ -502,18 +500,19 @@ class Keep(Stops):
         return used.ru_maxrss / 1024, used.ru_utime + used.ru_stime
 
     def costs_of_all(self, text):
-        """Those of a million interactions that aren't kept, that are kept, and of what is kept being read again."""
+        """Those of three million interactions that aren't kept, that are kept, and of what is kept being read again."""
         self.clear()
-        plain = self.costs("--workers", 1, "--steps", 10**6, text=text)
-        kept = self.costs("--keep", self.file, "--steps", 10**6, text=text)
-        return plain, kept, self.costs("--resume", self.file, "--steps", 10**6)
+        words = ["--workers", 1, "--steps", 3 * 10**6]
+        plain = self.costs(*words, text=text)
+        kept = self.costs("--keep", self.file, *words, text=text)
+        return plain, kept, self.costs("--resume", self.file, *words)
 
-    def test_a_million_nodes_are_kept_at_a_bounded_cost(self):
-        """Of a net that grows, and of one that is read: what has begun holds and reads nothing of its own files. Who is slowed down by
-        others may try again."""
+    def test_three_million_nodes_are_kept_at_a_bounded_cost(self):
+        """Of a net that grows, and of one that is read: what has begun holds and reads nothing of its own files, and a resume frees what
+        it has read before it puts together what it has reached. Who is slowed down by others may try again."""
         rules = "{A(B(x),S(l))><B(A(x,l))}"
-        grows, is_read = (f"{rules} <r|{it}>".encode() for it in ("A(x,r)=B(x)", f"r={'S(' * 10**6}Z{')' * 10**6}"))
-        for text, held, most in ((grows, 1.5, 3.0), (is_read, 1.08, 1.5)):
+        grows, is_read = (f"{rules} <r|{it}>".encode() for it in ("A(x,r)=B(x)", f"r={'S(' * 3 * 10**6}Z{')' * 3 * 10**6}"))
+        for text, held, most in ((grows, 1.1, 1.5), (is_read, 1.05, 1.0)):
             for _ in range(3):
                 plain, kept, resumed = self.costs_of_all(text)
                 is_small = kept[0] <= held * plain[0] and resumed[0] <= most * plain[0]
@@ -793,22 +792,6 @@ class Keep(Stops):
         self.equals(ran.command, "interactions that are kept", before, self.kept())
         self.agree(run("reduce", "--resume", self.file, *FIGURES), whole)
 
-    @contextlib.contextmanager
-    def device(self, size):
-        """A device in memory of so many bytes, which is taken away at the end. A trial that asks for it is skipped where none can
-        be had."""
-        if os.geteuid() or not shutil.which("mount"):
-            self.skipTest("a device in memory takes root and mount")
-        folder = self.room / "device"
-        folder.mkdir()
-        made = subprocess.run(["mount", "-t", "tmpfs", "-o", f"size={size}", "tmpfs", folder], stderr=subprocess.PIPE)
-        if made.returncode:
-            self.skipTest(f"no device in memory can be had: {made.stderr.decode(errors='replace')}")
-        try:
-            yield folder
-        finally:
-            subprocess.run(["umount", folder], check=True)
-
     def test_a_device_that_fills_in_the_midst_of_a_keep_leaves_what_was_kept(self):
         """The state takes six pages, and its file has one."""
         text = church(14)
@@ -853,6 +836,14 @@ class Keep(Stops):
         ran = run("reduce", *words, given=text if begins else b"", **recording(self.log))
         self.equals(ran.command, f"status; it said {ran.err}", True, ran.status in (0, 5))
         return ran, [it for it in noted(self.log) if it.kind in "WST"]
+
+    def test_a_keep_waits_for_the_disk_between_its_phases_alone(self):
+        """Gate, state with length and number, gate: each is there for good before the next. The first keep finds a closed gate."""
+        begins, first, later = "WSWSWWWSWS", "WWWSWS", "WSWWWSWS"
+        for most, wanted in ((20, begins + first), (40, later), (60, later)):
+            ran, calls = self.life(ackermann(2), most, most == 20)
+            kinds = "".join(it.kind for it in calls)
+            self.equals(ran.command, "its writes and syncs", wanted, kinds[kinds.index("W") :])
 
     def moments(self, begun, calls, held, next_one, after):
         """The moments of a life: what is synced in each file, which is written, the ranges pending there, and how many interactions

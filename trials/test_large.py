@@ -2,23 +2,20 @@
 
 import json
 import os
+import resource
 import shutil
 import signal
-import sys
 import time
 
-from program import IN_MEMORY, PROGRAM, TOP, run
-from shards import SCRIPTS, Shards, kill
-
-sys.path.insert(0, str(TOP / "bench"))
-
-from systems import ACKERMANN, FIBONACCI, numeral  # noqa: E402
-
-# Equations of which a pair is left, and none.
-STUCK = ",Stop(z)=Wait(z)"
+from program import PROGRAM, grows_to
+from shards import SCRIPTS, kill
+from texts import FIBONACCI, Texts, drawn_text, numeral
 
 # A net that never ends.
 LOOP = "{A(B(x))><B(A(x))} <|A(x)=B(x)>"
+
+# A net that gets larger by a node with each interaction.
+GROWS = "{A(B(x),S(l))><B(A(x,l))} <r|A(x,r)=B(x)>"
 
 # Stands for icserve: what is begun has written a first byte, and then takes long.
 SLOW = """#!/bin/sh
@@ -33,30 +30,8 @@ exec {program} "$@"
 """
 
 
-def drawn_text(draw):
-    """A system of 10^6 to 10^7 interactions, whose answer has no names, and whether a pair is left."""
-    stuck = STUCK if draw.random() < 0.3 else ""
-    if draw.random() < 0.5:
-        return f"{FIBONACCI} <r|F(r)={numeral(draw.randint(24, 27))}{stuck}>"
-    one, two = draw.choice([(3, 8), (2, draw.randint(800, 1500))])
-    return f"{ACKERMANN} <r|Ack(r,{numeral(two)})={numeral(one)}{stuck}>"
-
-
-class Large(Shards):
+class Large(Texts):
     seconds = 60
-    rooms = IN_MEMORY
-
-    def write(self, texts, folder="texts"):
-        (self.room / folder).mkdir()
-        for name, text in texts.items():
-            (self.room / folder / f"{name}.ic").write_text(text + "\n")
-
-    def unbroken(self, name, text):
-        """What `gather` prints of a text that is reduced without a stop, and its figures."""
-        ran = run("reduce", "--workers", "1", "--stats", "--format", "json", given=text, seconds=120)
-        figures = next(json.loads(it) for it in ran.err.decode().splitlines() if it.startswith("{"))
-        state = "stuck" if figures["stuck"] else "done"
-        return f"{name} {state} {figures['interactions']} {ran.out.decode().strip()}", figures
 
     def test_40_texts_killed_at_ten_moments_end_as_unbroken_runs(self):
         draw = self.draws()
@@ -67,8 +42,7 @@ class Large(Shards):
         killed = 0
         for moment in range(10):
             with self.engine("sh", "-c", command) as engine:
-                answered = lambda: len(list((self.room / "texts").glob("*.answer")))  # noqa: E731
-                self.waits_for(lambda: engine.ended() is not None or answered() >= 4 * moment, 120)
+                self.waits_for(lambda: engine.ended() is not None or self.answered_texts() >= 4 * moment, 120)
                 time.sleep(0.3 * draw.random())
                 killed += engine.ended() is None
                 if moment % 3 == 1:
@@ -80,17 +54,7 @@ class Large(Shards):
                     engine.end()
         self.ends_well(lambda: self.engine("sh", "-c", command))
         self.equals("40 texts", f"at least eight kills in their midst: {killed}", True, killed >= 8)
-        wanted = {name: self.unbroken(name, text) for name, text in texts.items()}
-        self.ended(self.script("gather", "texts"), out=[line for line, _ in wanted.values()])
-        for name, (_, figures) in wanted.items():
-            came = json.loads((self.room / f"texts/{name}.ic.figures").read_text())
-            self.equals(name, "interactions by rule and the stuck pair", (figures["by_rule"], figures["stuck"]), (came["by_rule"], came["stuck"]))
-        left = {it.name.split(".ic")[1] for it in (self.room / "texts").iterdir()}
-        self.equals("texts", "files that are left", {"", ".answer", ".figures", ".lock"}, left)
-
-    def has(self, *ends, of="texts"):
-        """Fails unless the folder has just these files, by the ends of their names."""
-        self.equals(of, "the files", sorted(ends), sorted(it.name for it in (self.room / of).iterdir()))
+        self.end_as_unbroken(texts)
 
     def test_a_script_that_is_killed_before_or_after_each_program_that_it_calls_goes_on(self):
         """It calls flock, then rm twice, icserve and grep, sync, mv and sync twice, icserve, grep twice, sync, mv and sync twice,
@@ -167,23 +131,52 @@ class Large(Shards):
 
     def test_what_is_refused_cut_or_begun_is_told(self):
         add = "{Add(x,x)><Z;Add(S(x),y)><S(Add(x,y))}"
-        self.write({"bad": "{A><B", "done": f"{add} <r|Add(r,Z)=Z>", "loop": LOOP, "stuck": "{A><B} <|A=A,A=B>", "wide": f"{add} <r|Add(r,Z)={numeral(9)}>"})
-        self.ended(self.script("table", "texts"), out=["name\tstate\tinteractions\tseconds\tnodes\ttold", *(f"{it}\twaiting\t-\t-\t-\t-" for it in ("bad", "done", "loop", "stuck", "wide"))])
-        for words, status in ((["texts/bad.ic"], 1), (["texts/done.ic"], 0), (["texts/loop.ic", "--steps", "7"], 5), (["texts/stuck.ic"], 0)):
+        self.write({"bad": "{A><B", "circle": "{} <|x=A(x)>", "done": f"{add} <r|Add(r,Z)=Z>", "loop": LOOP, "stuck": "{A><B} <|A=A,A=B>", "wide": f"{add} <r|Add(r,Z)={numeral(9)}>"})
+        self.ended(self.script("table", "texts"), out=["name\tstate\tinteractions\tseconds\tnodes\ttold", *(f"{it}\twaiting\t-\t-\t-\t-" for it in ("bad", "circle", "done", "loop", "stuck", "wide"))])
+        for words, status in ((["texts/bad.ic"], 1), (["texts/circle.ic"], 0), (["texts/done.ic"], 0), (["texts/loop.ic", "--steps", "7"], 5), (["texts/stuck.ic"], 0)):
             ran = self.script("large", *words)
             self.equals(ran.command, f"status; it said {ran.err}", status, ran.status)
         rows = [it.split("\t") for it in self.script("table", "texts").out.decode().splitlines()[1:]]
-        told = [["bad", "refused", "-", "bad syntax"], ["done", "done", "1", "-"], ["loop", "begun", "7", "-"], ["stuck", "stuck", "1", "A><A"], ["wide", "waiting", "-", "-"]]
+        told = [["bad", "refused", "-", "bad syntax"], ["circle", "circling", "0", "A"], ["done", "done", "1", "-"], ["loop", "begun", "7", "-"], ["stuck", "stuck", "1", "A><A"], ["wide", "waiting", "-", "-"]]
         self.equals("table texts", "its rows, without seconds and nodes", told, [[*it[:3], it[5]] for it in rows])
         progress = self.script("progress", "texts").out.decode().splitlines()
-        self.equals("progress texts", "the last line", "5 texts: done 1, stuck 1, refused 1, begun 1, waiting 1, interactions 9", progress[-1])
+        kept = [self.room / f"texts/loop.ic.{it}" for it in ("keep", "keep.2")]
+        line = rf"loop: interactions 7, (-|\d+) a second, words {rows[3][4]}, bytes {sum(it.stat().st_size for it in kept)}"
+        self.assertRegex(progress[0], f"^{line}$")
+        self.equals("progress texts", "the last line", "6 texts: done 1, stuck 1, circling 1, refused 1, begun 1, waiting 1, interactions 9", progress[-1])
+        self.equals("gather --there texts", "the states", [b"circling", b"done", b"stuck"], [it.split()[1] for it in self.script("gather", "--there", "texts").out.splitlines()])
         ran = self.script("gather", "texts")
         self.equals(ran.command, "how it ends", (1, b""), (ran.status, ran.out))
         # With more steps it goes on, and a folder is taken as a whole.
         ran = self.script("large", "texts", "--steps", "100")
         self.equals(ran.command, f"status; it said {ran.err}", 5, ran.status)
         rows = [it.split("\t")[:3] for it in self.script("table", "texts").out.decode().splitlines()[1:]]
-        self.equals("table texts", "its rows", [["bad", "refused", "-"], ["done", "done", "1"], ["loop", "begun", "100"], ["stuck", "stuck", "1"], ["wide", "done", "10"]], rows)
+        self.equals("table texts", "its rows", [["bad", "refused", "-"], ["circle", "circling", "0"], ["done", "done", "1"], ["loop", "begun", "100"], ["stuck", "stuck", "1"], ["wide", "done", "10"]], rows)
+
+    def test_a_text_whose_device_is_full_fails_and_goes_on_once_there_is_room(self):
+        """What is kept first is refused for its size, and then what is kept at the end."""
+        texts = {"one": f"{FIBONACCI} <r|F(r)={numeral(12)}>"}
+        self.write(texts)
+        statuses = set()
+        for most in (0, 10, 100, 200, 300, 500, 800, 1000):
+            ran = self.script("large", "texts/one.ic", **grows_to(most))
+            statuses.add(ran.status)
+            self.equals(ran.command, f"whether there is an answer, with {most} bytes a file", False, (self.room / "texts/one.ic.answer").exists())
+            self.equals(ran.command, f"status with {most} bytes a file; it said {ran.err}", True, ran.status in (3, 4))
+        self.equals("large texts/one.ic", "the statuses", {3, 4}, statuses)
+        self.ended(self.script("large", "texts/one.ic"))
+        self.end_as_unbroken(texts)
+
+    def test_a_text_that_is_refused_memory_goes_on_once_there_is_more(self):
+        self.write({"one": GROWS})
+        words = ["texts/one.ic", "--steps", "8000000"]
+        ran = self.script("large", *words, preexec_fn=lambda: resource.setrlimit(resource.RLIMIT_AS, (2**27, 2**27)))
+        self.equals(ran.command, "status, and what is told", (4, True), (ran.status, b"icserve: memory" in ran.err))
+        self.has("one.ic", "one.ic.keep", "one.ic.keep.2", "one.ic.lock")
+        ran = self.script("large", *words)
+        self.equals(ran.command, f"status; it said {ran.err}", 5, ran.status)
+        figures = json.loads((self.room / "texts/one.ic.figures").read_text())
+        self.equals(ran.command, "interactions", 8_000_000, figures["interactions"])
 
     def test_two_at_one_text_and_misuse_are_told(self):
         self.write({"one": LOOP})
