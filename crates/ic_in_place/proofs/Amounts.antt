@@ -13,7 +13,7 @@ use Rattle.ic_generations.specs.Firings.{rules_of}
 use Rattle.ic_meaning.specs.Generations.{FireAsRounds}
 use Rattle.ic_meaning.specs.Plans.{rule_number}
 use Rattle.ic_in_place.specs.Amounts.{all_made, all_spent}
-use Rattle.ic_in_place.proofs.RoundsNeeded.{round_first}
+use Rattle.ic_in_place.specs.lemmas.RoundsOn.{round_first}
 
 -- what the laws say that this one builds on
 pub record AmountLaws : Type 0 where

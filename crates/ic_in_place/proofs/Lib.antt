@@ -28,6 +28,7 @@ pub mod LineByRounds
 pub mod RoundsNeeded
 pub mod RoundsTold
 pub mod RoundsEnough
+pub mod RoundsFired
 pub mod RoundedSystem
 pub mod Amounts
 pub mod Fired

@@ -81,7 +81,7 @@ a_round_is_settled rs (suc k) c f some step = settled_ends (fired rs (iterate rs
 
 -- ---- of a system
 
-nothing_fired : (fired : List ℕ) (n : ℕ) → n ≡ length fired → n ≡ 0 → fired ≡ []
+pub nothing_fired : (fired : List ℕ) (n : ℕ) → n ≡ length fired → n ≡ 0 → fired ≡ []
 nothing_fired [] n same none = refl
 nothing_fired (i ∷ is) n same none = absurd (omega (arith, same, none))
 

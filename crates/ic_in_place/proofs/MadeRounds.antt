@@ -25,7 +25,7 @@ pub record Made (s : SystemParts) (most rounds : ℕ) (answer : Configuration) (
   pub count : CountsRounds end interactions told taken rounds
 
 -- of a text
-pub made_of : (limits : Limits) (most : ℕ) (asked : Asked) (input line : List ℕ) (reached : Rounded) → (e : EndsByRounds limits most asked input reached line)
+abbrev pub made_of : (limits : Limits) (most : ℕ) (asked : Asked) (input line : List ℕ) (reached : Rounded) → (e : EndsByRounds limits most asked input reached line)
     → Made e.system most reached.rounds e.ends.answer reached.outcome.end reached.outcome.interactions reached.outcome.by_rule.items reached.outcome.name_steps
 made_of limits most asked input line reached e = record {
   given = e.given;

@@ -1,10 +1,10 @@
 -- Lemmas: rounds of a machine, one after the other.
-use Rattle.std.proofs.Common.{◌≡◌, ◌⊎◌, inl, inr, ℕ, zero, suc, ◌+◌, ◌≤◌, List, [], ◌∷◌, ◌++◌, length, take, refl, sym, ap, ◌∙◌, arith, subst}
+use Rattle.std.proofs.Common.{◌≡◌, ◌⊎◌, inl, inr, ℕ, zero, suc, ◌+◌, ◌<◌, ◌≤◌, Option, None, Some, List, [], ◌∷◌, ◌++◌, length, take, refl, sym, ap, ◌∙◌, arith, subst}
 use Rattle.std.specs.List.{AllByRecursion, concat}
 use Rattle.std.specs.Prelude.{Contains}
 use Rattle.std.proofs.lemmas.List.{append-nil, length-append}
 use Rattle.std.proofs.lemmas.List.Folds.{concat-append}
-use Rattle.std.proofs.lemmas.List.Sorted.{Contains-permutation}
+use Rattle.std.proofs.lemmas.List.Sorted.{Contains-permutation, length_permutation}
 use Rattle.ic_arena.specs.Piece.{Piece}
 use Rattle.ic_machine.specs.declared.equation.Equation.{Equation}
 use Rattle.ic_machine.specs.declared.generation.Generation.{Generation}
@@ -12,13 +12,14 @@ use Rattle.ic_machine.specs.Generations.{Advances, Takes, beside, ended, fires, 
 use Rattle.ic_machine.specs.Net.{Net, HasNext, IsActive, IsStuck, equated_of}
 use Rattle.ic_machine.specs.Plan.{Plans}
 use Rattle.ic_machine.specs.Runs.{Ran}
+use Rattle.ic_machine.specs.lemmas.FiringKeeps.{all_append}
 use Rattle.ic_machine.specs.lemmas.RunsOn.{ran_none, ran_none-fired, ran_on, ran_on-fired}
 use Rattle.ic_in_place.specs.declared.running.End.{End}
 use Rattle.ic_in_place.specs.declared.running.End.TheVariants.{Quiet, Steps}
 use Rattle.ic_meaning.specs.InPlace.{AreRounds, begun, goes_on, next_round}
-use Rattle.ic_in_place.specs.Rounds.{AreOver, AreTold, EndsAfter, FireAfterFirst, none_told, none_yet, one_told, some}
+use Rattle.ic_in_place.specs.Rounds.{AreOver, AreTold, EndsAfter, FireAfterFirst, GoOn, next_pairs, none_told, none_yet, one_told, some}
 use Rattle.ic_in_place.specs.Told.{RoundOver, IsBetween}
-use Rattle.ic_in_place.specs.inner.Rounds.{AreSomeActive, RoundBegins}
+use Rattle.ic_in_place.specs.inner.Rounds.{AreEarly, AreSomeActive, RoundBegins}
 
 -- ---- lists
 
@@ -49,6 +50,18 @@ takes_active p _ _ _ _ _ e (stays d now es left is xs before ys order t stuck r)
     takes_active p es left is (equated_of d ∷ before) ys e r none
     (among_others p es d e active stuck (Contains-permutation now (d ∷ es) e order there)) active
 
+-- no more pairs fire than are taken
+takes_few : (p : Plans) (now left : List Equation) (is : List ℕ) (xs ys : List Piece) → Takes p now left is xs ys → length is ≤ length now
+takes_few p _ _ _ _ _ (ended now left xs ys order t) = omega arith
+takes_few p _ _ _ _ _ (fires d now es left i is xs before after ys order t f r) =
+    let rest = takes_few p es left is after ys r in
+    let many = length_permutation now (d ∷ es) order in
+    omega (arith, rest, many)
+takes_few p _ _ _ _ _ (stays d now es left is xs before ys order t stuck r) =
+    let rest = takes_few p es left is (equated_of d ∷ before) ys r in
+    let many = length_permutation now (d ∷ es) order in
+    omega (arith, rest, many)
+
 -- ---- what fired
 
 concat_next : (ms : List (List ℕ)) (fired : List ℕ) → concat (ms ++ fired ∷ []) ≡ concat ms ++ fired
@@ -61,6 +74,29 @@ fired_since p pairs rounds g first old new b ran =
     ran_on-fired p first old new b.ran ran ∙ ap (λ (l : List ℕ). l ++ ran.fired) b.fired
 
 -- ---- one round more
+
+taken_few : {X : Type 0} (k : ℕ) (xs : List X) → length (take k xs) ≤ k
+taken_few zero xs = omega arith
+taken_few (suc k) [] = omega arith
+taken_few (suc k) (x ∷ xs) = let rest = taken_few k xs in omega (arith, rest)
+
+advanced_few : (p : Plans) (pairs rounds : ℕ) (g h : Generation) (first old new : Net) → (b : RoundBegins p pairs rounds g first old) → (a : Advances p g h old new)
+    → length a.ran.fired ≤ next_pairs pairs b.made old
+advanced_few p pairs rounds g h first old new b a =
+    let here : length a.ran.fired ≤ length (take g.end old.pending) =
+    takes_few p (present g old.pending) (present h new.pending) a.ran.fired (beside (later g old.pending) old) (beside (later h new.pending) new) a.takes in
+    let taken = taken_few g.end old.pending in
+    let all = b.takes in
+    omega (arith, here, taken, all)
+
+-- after a round all that is pending is taken
+all_next : (pairs : ℕ) (made : List (List ℕ)) (fired : List ℕ) (m : Net) → next_pairs pairs (made ++ fired ∷ []) m ≡ length m.pending
+all_next pairs [] fired m = refl
+all_next pairs (f ∷ made) fired m = refl
+
+none_since : (fired : List ℕ) (n : ℕ) → fired ≡ [] → length fired ≤ n
+none_since [] n same = omega arith
+none_since (i ∷ is) n same = absurd (cc same)
 
 advanced_active : (p : Plans) (g h : Generation) (old new : Net) (a : Advances p g h old new) → h.end ≡ 0
     → AreSomeActive p (present g old.pending) → 1 ≤ length a.ran.fired
@@ -106,6 +142,34 @@ as_many_told p first pairs made told (one_told over fired so_far m are done betw
     let other : length (over ++ fired ∷ []) ≡ length over + 1 = length-append over (fired ∷ []) in
     omega (arith, rest, one, other)
 
+-- ---- rounds go on while too few interactions are made
+
+pub none_early : (enough : Option ℕ) → AreEarly enough []
+none_early None = tt
+none_early (Some n) = tt
+
+all_later : (n rounds : ℕ) (told : List RoundOver) → AllByRecursion (λ o. o.net.interactions < n) told → AllByRecursion (λ o. o.round < rounds → o.net.interactions < n) told
+all_later n rounds [] each = tt
+all_later n rounds (o ∷ told) each = ((λ low. each.0), all_later n rounds told each.1)
+
+-- of rounds that were all followed by another
+pub early_go_on : (enough : Option ℕ) (rounds : ℕ) (told : List RoundOver) → AreEarly enough told → GoOn enough rounds told
+early_go_on None rounds told each = tt
+early_go_on (Some n) rounds told each = all_later n rounds told each
+
+-- and of the last one, too
+pub last_goes_on : (enough : Option ℕ) (rounds taken : ℕ) (told : List RoundOver) (fired : ℕ) (m : Net) → AreEarly enough told → taken ≡ rounds + 1 → GoOn enough taken (told_next told rounds fired m)
+last_goes_on None rounds taken told fired m each same = tt
+last_goes_on (Some n) rounds taken told fired m each same =
+    all_append (λ (o : RoundOver). o.round < taken → o.net.interactions < n) told (record { round = rounds + 1; pairs = fired; net = m } ∷ []) (all_later n taken told each)
+    ((λ low. absurd (omega (arith, low, same))), tt)
+
+pub early_next : (enough : Option ℕ) (rounds : ℕ) (told : List RoundOver) (fired : ℕ) (m : Net) → AreEarly enough told → ((n : ℕ) → enough ≡ Some n → m.interactions < n)
+    → AreEarly enough (told_next told rounds fired m)
+early_next None rounds told fired m each more = tt
+early_next (Some n) rounds told fired m each more =
+    all_append (λ (o : RoundOver). o.net.interactions < n) told (record { round = rounds + 1; pairs = fired; net = m } ∷ []) each (more n refl, tt)
+
 -- What is known as a round is over.
 pub record RoundIsOver (p : Plans) (pairs rounds : ℕ) (g h : Generation) (first old new : Net)
     (b : RoundBegins p pairs rounds g first old) (a : Advances p g h old new) : Type 0 where
@@ -143,6 +207,8 @@ first_begins p pairs m few P holds = (
     are_told = none_told;
     active = inl refl;
     within = few;
+    takes = refl;
+    between = λ one. absurd (omega (arith, one));
     ran = ran_none p m;
     fired = ran_none-fired p m;
   },
@@ -166,6 +232,8 @@ next_begins p pairs rounds g h first old new b a over between active P holds =
       are_told = done.are_told;
       active = inr (subst (AreSomeActive p) (sym (all_taken new.pending)) active);
       within = omega arith;
+      takes = sym (all_next pairs b.made a.ran.fired new);
+      between = λ one. between;
       ran = ran_on p first old new b.ran a.ran;
       fired = fired_since p pairs rounds g first old new b a.ran ∙ sym (concat_next b.made a.ran.fired);
     } in
@@ -179,9 +247,9 @@ neither end quiet steps (inr is) = absurd (steps is)
 
 -- Within a round.
 pub ends_within : (p : Plans) (pairs most rounds : ℕ) (end : End) (g h : Generation) (first old new : Net)
-    → (b : RoundBegins p pairs rounds g first old) → Advances p g h old new → rounds ≤ most → ¬ (end ≡ Quiet) → ¬ (end ≡ Steps)
+    → (b : RoundBegins p pairs rounds g first old) → Advances p g h old new → 0 < h.end → rounds ≤ most → ¬ (end ≡ Quiet) → ¬ (end ≡ Steps)
     → (P : List RoundOver → Type 0) → P b.told → (ends : EndsAfter p pairs most rounds end first new) × P ends.told
-ends_within p pairs most rounds end g h first old new b a few quiet steps P holds = (
+ends_within p pairs most rounds end g h first old new b a left few quiet steps P holds = (
   record {
     made = b.made;
     last = old;
@@ -194,7 +262,9 @@ ends_within p pairs most rounds end g h first old new b a few quiet steps P hold
     ran = ran_on p first old new b.ran a.ran;
     since = a.ran;
     all_fired = fired_since p pairs rounds g first old new b a.ran;
-    under_way = inr (h, goes_on b.made [] g h old new b.are a);
+    under_way = inr (h, omega (arith, left), goes_on b.made [] g h old new b.are a);
+    few = advanced_few p pairs rounds g h first old new b a;
+    between = b.between;
     whole = neither end quiet steps;
     quiet = λ is. absurd (quiet is);
     some = λ is. absurd (quiet is);
@@ -227,6 +297,8 @@ ends_quiet p pairs most rounds g h first old new b a over few between stuck P ho
             ∙ (sym (append-nil (concat (b.made ++ a.ran.fired ∷ [])))
             ∙ ap (λ (l : List ℕ). concat (b.made ++ a.ran.fired ∷ []) ++ l) (sym (ran_none-fired p new))));
         under_way = inl (ran_none-fired p new);
+        few = none_since (ran_none p new).fired (next_pairs pairs (b.made ++ a.ran.fired ∷ []) new) (ran_none-fired p new);
+        between = λ one. between;
         whole = λ is. ran_none-fired p new;
         quiet = λ is. stuck;
         some = λ is one. omega arith;
@@ -254,6 +326,8 @@ ends_all p pairs most end g first last new b ran none quiet more P holds = (
     since = ran;
     all_fired = fired_since p pairs most g first last new b ran;
     under_way = inl none;
+    few = none_since ran.fired (next_pairs pairs b.made last) none;
+    between = b.between;
     whole = λ is. none;
     quiet = quiet;
     some = λ is one. one;

@@ -8,7 +8,7 @@ use Rattle.std.specs.Prelude.{IsPermutation, IsTrue}
 use Rattle.std.specs.Option.{option_map}
 use Rattle.std.specs.List.{AllByRecursion, list_all}
 use Rattle.ic_term.specs.Tree.{Pair}
-use Rattle.ic_term.specs.Configuration.{Configuration, configuration_names}
+use Rattle.ic_term.specs.Configuration.{Configuration}
 use Rattle.ic_term.specs.Symbol.{is_over}
 use Rattle.ic_rules.specs.Rule.{Rule}
 use Rattle.ic_rules.specs.RuleSet.{Rules, IsRuleSet}
@@ -29,6 +29,7 @@ use Rattle.ic_meaning.specs.Plans.{rule_number}
 use Rattle.ic_meaning.specs.Generations.{FireAsRounds}
 use Rattle.ic_meaning.specs.InPlace.{AreRounds, begun, goes_on, put_through, next_round}
 use Rattle.ic_in_place.specs.Rounds.{AreOver, none_yet, some, FireAfterFirst}
+use Rattle.ic_in_place.specs.lemmas.RoundsOn.{raised_names, round_first}
 
 -- ---- what is quiet stays so, and fires nothing
 
@@ -69,10 +70,6 @@ all_none_fired rs numbers (f ∷ made) c quiet fired =
     omega (arith, first, rest, all)
 
 -- ---- each round that fires was needed
-
-pub round_first : (rs : List Rule) (k : ℕ) (c : Configuration) → iterate rs k (round rs c) ≡ iterate rs (suc k) c
-round_first rs zero c = refl
-round_first rs (suc k) c = ap (round rs) (round_first rs k c)
 
 needed : (rs : List Rule) (numbers : List ℕ) (made : List (List ℕ)) (c : Configuration) (n : ℕ) → FireAsRounds rs numbers made c → AllByRecursion (λ f. 1 ≤ length f) made → n < length made
     → IsQuiet rs (iterate rs n c) → ⊥
@@ -138,15 +135,11 @@ quiet_raised rs more c =
     ap (λ b. is_inert rs c && b)
     (none_mapped (applied (raised more c)) (first_choice c.interface [] c.equations) ∙ sym (none_mapped (applied c) (first_choice c.interface [] c.equations)))
 
-higher_names : (ns : List ℕ) (low more : ℕ) → AllByRecursion (λ n. n < low) ns → AllByRecursion (λ n. n < low + more) ns
-higher_names [] low more all = tt
-higher_names (n ∷ ns) low more all = ((let here = all.0 in omega (arith, here)), higher_names ns low more all.1)
-
 pub quiet_as : ((rs : Rules) (c d : Configuration) → IsRuleSet rs → IsTrue (is_over rs.symbols c) → HasNames c → Same c d → IsQuiet rs.rules c → IsQuiet rs.rules d)
     → (rs : Rules) (c d : Configuration) → IsRuleSet rs → IsTrue (is_over rs.symbols c) → HasNames c → SameButNext c d → IsQuiet rs.rules c → IsQuiet rs.rules d
 quiet_as law rs c d set over named s quiet =
     let up = raised s.more c in
-    let named_up : HasNames up = record { below = higher_names (configuration_names c) c.next s.more named.below; twice = named.twice } in
+    let named_up : HasNames up = raised_names s.more c named in
     let quiet_up = no_quiet_step rs.rules up (quiet_raised rs.rules s.more c ∙ is_quiet_where rs.rules c quiet) in
     let end = law rs up (raised s.others d) set over named_up s.same quiet_up in
     no_quiet_step rs.rules d (sym (quiet_raised rs.rules s.others d) ∙ is_quiet_where rs.rules (raised s.others d) end)

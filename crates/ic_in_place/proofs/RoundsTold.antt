@@ -1,12 +1,10 @@
 -- Lemmas: what is told of rounds is what they fire, and how many are told.
-use Rattle.std.proofs.Common.{◌≡◌, ◌⊎◌, inl, inr, ℕ, zero, suc, ◌+◌, ◌-◌, ◌≤◌, ◌<◌, List, [], ◌∷◌, ◌++◌, true, false, Option, None, Some, length, map, sum_by, refl, sym, ap, ◌∙◌, arith, subst}
+use Rattle.std.proofs.Common.{◌≡◌, ◌⊎◌, inl, inr, ℕ, suc, ◌+◌, ◌-◌, ◌≤◌, ◌<◌, List, [], ◌∷◌, ◌++◌, true, false, length, map, sum_by, refl, sym, ap, ◌∙◌, arith, subst}
 use Rattle.std.specs.List.{AllByRecursion}
 use Rattle.std.specs.Prelude.{IsPermutation, IsTrue}
-use Rattle.std.specs.Option.{option_map, option_map_or, option_to_list}
 use Rattle.std.proofs.lemmas.List.{length-append, length-map, map-append}
 use Rattle.std.proofs.lemmas.List.Sums.{sum_by-append, sum_by-cons}
 use Rattle.std.proofs.lemmas.List.Sorted.{length_permutation}
-use Rattle.ic_term.specs.Tree.{Pair}
 use Rattle.ic_term.specs.Configuration.{Configuration}
 use Rattle.ic_term.specs.Symbol.{is_over}
 use Rattle.ic_rules.specs.Rule.{Rule}
@@ -14,8 +12,7 @@ use Rattle.ic_rules.specs.RuleSet.{Rules, IsRuleSet}
 use Rattle.ic_settle.specs.NameSteps.{NameStep}
 use Rattle.ic_reaching.specs.OneNet.{OneNet}
 use Rattle.ic_round.specs.Naming.{HasNames}
-use Rattle.ic_round.specs.ActivePlaces.{active, active_from}
-use Rattle.ic_round.specs.Firing.{Active, active_pair}
+use Rattle.ic_round.specs.ActivePlaces.{active}
 use Rattle.ic_round.specs.Rounds.{round, iterate}
 use Rattle.ic_generations.specs.Firings.{rules_of}
 use Rattle.ic_arena.specs.declared.word.TheConstants.{GIVEN}
@@ -37,23 +34,9 @@ use Rattle.ic_in_place.proofs.LineByRounds.{a_round_is_settled}
 use Rattle.ic_in_place.specs.Rounds.{AreOver, AreTold, CountsRounds, FireAfterFirst, stands_still, none_told, none_yet, one_told, some}
 use Rattle.ic_in_place.specs.Told.{IsBetween, RoundOver, figures_after, figures_by, figures_of}
 use Rattle.ic_in_place.specs.declared.stream.Outcome.{Outcome}
+use Rattle.ic_in_place.specs.lemmas.RoundsOn.{round_first, rules_active}
 use Rattle.ic_in_place.proofs.RoundsMade.{as_many_told}
 use Rattle.ic_in_place.proofs.Still.{still_none, still_or_not}
-
--- as many rules fire as equations are active
-rules_active : (rs : List Rule) (i : ℕ) (es : List Pair) → length (rules_of rs es) ≡ length (active_from rs i es)
-rules_active rs i [] = refl
-rules_active rs i (p ∷ es) = at (active_pair rs p) (rules_active rs (i + 1) es)
-  where
-    at : (o : Option Active) → length (rules_of rs es) ≡ length (active_from rs (i + 1) es)
-        → length (option_to_list (option_map (λ a. a.rule) o) ++ rules_of rs es)
-        ≡ length (option_map_or (λ a. i ∷ active_from rs (i + 1) es) o (active_from rs (i + 1) es))
-    at None rest = rest
-    at (Some a) rest = omega (arith, rest)
-
-round_first : (rs : List Rule) (k : ℕ) (c : Configuration) → iterate rs k (round rs c) ≡ iterate rs (suc k) c
-round_first rs zero c = refl
-round_first rs (suc k) c = ap (round rs) (round_first rs k c)
 
 -- what the last of some rounds fired
 pub last_fires : (rs : List Rule) (numbers : List ℕ) (made : List (List ℕ)) (fired : List ℕ) (c : Configuration) → FireAsRounds rs numbers (made ++ fired ∷ []) c
@@ -64,7 +47,7 @@ last_fires rs numbers (f ∷ made) fired c fire =
     ((fire.0, rest.0), subst (λ z. IsPermutation (map (rule_number numbers) fired) (rules_of rs z.equations)) (round_first rs (length made) c) rest.1)
 
 -- what a net between rounds has left is what the configuration after them has beside circles
-abbrev LeftBeside : Plans → Net → ℕ → List Rule → Configuration → Type 0
+abbrev pub LeftBeside : Plans → Net → ℕ → List Rule → Configuration → Type 0
 LeftBeside p first pairs rs c = (made : List (List ℕ)) (m : Net) → AreOver p first pairs made m → IsBetween m → 1 ≤ length made
     → equations_left m + circles (iterate rs (length made) c) ≡ length (iterate rs (length made) c).equations
 

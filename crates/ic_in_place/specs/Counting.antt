@@ -1,9 +1,11 @@
 -- How often each rule fired, and how many steps put a term for a name.
-use Rattle.std.specs.Prelude.{◌≡◌, ℕ, suc, ◌+◌, ◌^◌, ◌<◌, ◌==◌, List, [], ◌∷◌, ◌++◌, Option, None, SomeIff, length, map, count_by, slice_index_or}
+use Rattle.std.specs.Prelude.{◌≡◌, ◌⊎◌, ℕ, zero, suc, ◌+◌, ◌^◌, ◌<◌, ◌≤◌, ◌==◌, List, [], ◌∷◌, ◌++◌, Option, None, SomeIff, length, map, count_by, slice_index_or}
 use Rattle.ic_term.specs.Configuration.{Configuration}
 use Rattle.ic_rules.specs.Rule.{Rule}
 use Rattle.ic_round.specs.Quiet.{IsQuiet}
+use Rattle.ic_round.specs.Rounds.{iterate}
 use Rattle.ic_confluence.specs.Kinds.{Kind, naming, firing, Chain}
+use Rattle.ic_generations.specs.Firings.{rules_of}
 use Rattle.ic_in_place.specs.declared.running.End.{End}
 use Rattle.ic_in_place.specs.declared.running.End.TheVariants.{Quiet, Steps, Nodes, Limit, Memory}
 
@@ -11,6 +13,21 @@ use Rattle.ic_in_place.specs.declared.running.End.TheVariants.{Quiet, Steps, Nod
 pub record AreCounts (rules : ℕ) (fired by_rule : List ℕ) : Type 0 where
   pub all : length by_rule ≡ rules
   pub each : (i : ℕ) → i < rules → slice_index_or by_rule i 0 ≡ count_by (λ j. j == i) fired
+
+-- the rules by which pairs fire in so many rounds, one round after another
+abbrev pub rules_in : List Rule → (rounds : ℕ) → Configuration → List ℕ
+rules_in rs zero c = []
+rules_in rs (suc n) c = rules_in rs n c ++ rules_of rs (iterate rs n c).equations
+
+-- So many interactions were made, so many of each rule, where so many rounds are over: those of these rounds, and some since, no
+-- more than there are equations then. Between two rounds there are none since.
+pub record AreOfRounds (rs : List Rule) (c : Configuration) (rounds : ℕ) (end : End)
+    (interactions : ℕ) (by_rule : List ℕ) : Type 0 where
+  pub since : List ℕ
+  pub all : interactions ≡ length (rules_in rs rounds c ++ since)
+  pub counts : AreCounts (length rs) (rules_in rs rounds c ++ since) by_rule
+  pub few : length since ≤ length (iterate rs rounds c).equations
+  pub whole : (end ≡ Quiet) ⊎ (end ≡ Steps) → since ≡ []
 
 -- how many of these steps put a term for a name
 abbrev pub name_steps : List Kind → ℕ

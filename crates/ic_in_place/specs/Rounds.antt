@@ -18,6 +18,7 @@ use Rattle.ic_meaning.specs.First.{LinksPairsFirst}
 use Rattle.ic_meaning.specs.Generations.{FireAsRounds}
 use Rattle.ic_meaning.specs.InPlace.{AreRounds}
 use Rattle.ic_meaning.specs.Plans.{rule_number}
+use Rattle.ic_in_place.specs.Counting.{AreOfRounds, TellsNameSteps, rules_in}
 use Rattle.ic_in_place.specs.Holding.{IsNetOf}
 use Rattle.ic_in_place.specs.Reducing.{IsPutTogether, IsReached, Writes}
 use Rattle.ic_in_place.specs.Reductions.{EndsOf}
@@ -49,9 +50,14 @@ abbrev pub FireAfterFirst : List (List ℕ) → Type 0
 FireAfterFirst [] = Unit {0}
 FireAfterFirst (first ∷ others) = AllByRecursion (λ fired. 1 ≤ length fired) others
 
+-- how many pairs the next round takes, where some are over: in the first one so many, and then all that are pending
+abbrev pub next_pairs : (pairs : ℕ) → (made : List (List ℕ)) → Net → ℕ
+next_pairs pairs [] m = pairs
+next_pairs pairs (fired ∷ made) m = length m.pending
+
 -- So many rounds are over, at most as many as may be made, and they are told. At a quiet end no pair is left that could fire. Where as many were
 -- made as may be, the last pair that is left can fire. In both cases no pair has fired since. Where some have, they are of the
--- next round, which is under way. What fired is what fired in these rounds, and since.
+-- next round, which is under way: it has a pair that isn't taken yet. What fired is what fired in these rounds, and since.
 pub record EndsAfter (p : Plans) (pairs most rounds : ℕ) (end : End) (first new : Net) : Type 0 where
   pub made : List (List ℕ)
   pub last : Net
@@ -66,7 +72,9 @@ pub record EndsAfter (p : Plans) (pairs most rounds : ℕ) (end : End) (first ne
   pub all_fired : ran.fired ≡ concat made ++ since.fired
   pub whole : (end ≡ Quiet) ⊎ (end ≡ Steps) → since.fired ≡ []
   pub under_way : (since.fired ≡ [])
-      ⊎ ((g : Generation) × AreRounds p first pairs made since.fired g new)
+      ⊎ ((g : Generation) × (1 ≤ g.end) × AreRounds p first pairs made since.fired g new)
+  pub few : length since.fired ≤ next_pairs pairs made last
+  pub between : 1 ≤ length made → IsBetween last
   pub quiet : end ≡ Quiet → AllByRecursion (IsStuck p) new.pending
   pub some : end ≡ Quiet → 1 ≤ most → 1 ≤ rounds
   pub all : end ≡ Steps → rounds ≡ most
@@ -76,6 +84,12 @@ pub record EndsAfter (p : Plans) (pairs most rounds : ℕ) (end : End) (first ne
 abbrev pub MayEnd : (rounds : ℕ) → (enough : Option ℕ) → (most interactions : ℕ) → Type 0
 MayEnd rounds enough most interactions = (most ≡ rounds)
     ⊎ ((1 ≤ most) × (most ≤ rounds) × ((n : ℕ) × (enough ≡ Some n) × (n ≤ interactions)))
+
+-- Each round that is told and isn't the last was followed by another, since fewer interactions were made by then than are enough.
+abbrev pub GoOn : (enough : Option ℕ) → (rounds : ℕ) → List RoundOver → Type 0
+GoOn None rounds told = Unit {0}
+GoOn (Some n) rounds told =
+    AllByRecursion (λ o. o.round < rounds → o.net.interactions < n) told
 
 -- A machine began with the configuration of a system, whose equations of two agents are pending first. So many rounds of it are
 -- over, at most as many as may be made, and each has fired as many pairs by each rule as the round does. If none has fired since,
@@ -135,7 +149,7 @@ pub record MakesRounds (s : SystemParts) (most rounds : ℕ) (end : End) (answer
       → SameButNext answer (iterate s.rules.rules rounds s.config)
 
 -- A system was reduced by so many rounds to what is told. As it ends at `Steps`, as many were made as may be, or enough
--- interactions were.
+-- interactions were. Each round but the first began before enough were.
 pub record IsRoundedTo (s : SystemParts) (most enough rounds : ℕ) (reduced : Reduced) : Type 0 where
   pub bounds : Bounds
   pub answer : Configuration
@@ -144,6 +158,11 @@ pub record IsRoundedTo (s : SystemParts) (most enough rounds : ℕ) (reduced : R
   pub writes : Writes s.rules.symbols reduced.words.items reduced.terms reduced.equations answer
   pub made : MakesRounds s most rounds reduced.end answer
   pub all : reduced.end ≡ Steps → (rounds ≡ most) ⊎ (enough ≤ reduced.interactions)
+  pub early : (n : ℕ) → 1 ≤ n → n < rounds → length (rules_in s.rules.rules n s.config) < enough
+  pub fired : AreOfRounds s.rules.rules s.config rounds reduced.end reduced.interactions
+      reduced.by_rule.items
+  pub name_steps : TellsNameSteps s.rules.rules s.config reduced.interactions
+      (length answer.equations) reduced.end reduced.name_steps
 
 -- the answers of reducing by at most so many rounds
 abbrev pub ReducesByRounds : Limits → (most : ℕ) → Asked → Answering

@@ -34,7 +34,7 @@ ghost use Rattle.ic_in_place.specs.declared.stream.Asked.{Asked};
 ghost use Rattle.ic_in_place.specs.declared.stream.Asked.TheVariants.{Nothing};
 ghost use Rattle.ic_in_place.specs.declared.stream.Outcome.{Outcome};
 ghost use Rattle.ic_in_place.specs.Amounts.{all_made, all_spent, by_counts};
-ghost use Rattle.ic_in_place.specs.Counting.{AreCounts, AreNameSteps, TellsNameSteps, arguments_at, name_steps};
+ghost use Rattle.ic_in_place.specs.Counting.{AreCounts, AreNameSteps, AreOfRounds, TellsNameSteps, arguments_at, name_steps};
 ghost use Rattle.ic_in_place.specs.Reducing.{IsPutTogether, IsReached};
 ghost use Rattle.ic_in_place.specs.Reductions.{EndsAs};
 ghost use Rattle.ic_in_place.specs.Holding.{AreCompiled, HasRun, Holds, HasEnded, IsNetOf};
@@ -354,6 +354,11 @@ pub fn what_is_told_of_rounds()
         → (length is.rounded.ends.told ≡ reached.rounds) ⊎ ((reached.rounds ≡ 0)
         × (length is.rounded.ends.told ≤ 1)
         × (sum_by (λ o. o.pairs) is.rounded.ends.told ≡ 0)) }
+    // The interactions that are told, in all and by each rule, are those of as many rounds, and of what fired since.
+    ensures fired { (limits : Limits) (most : ℕ) (asked : Asked) (input line : List ℕ)
+        (reached : Rounded) → (is : EndsByRounds limits most asked input reached line)
+        → AreOfRounds is.system.rules.rules is.system.config reached.rounds reached.outcome.end
+        reached.outcome.interactions reached.outcome.by_rule.items }
 {
     ic_reaching::laws::what_is_reached_is_one_net();
     ic_reaching::laws::what_is_reached_goes_on();

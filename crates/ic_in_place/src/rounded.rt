@@ -5,7 +5,7 @@ ghost use Rattle.std.specs.Io.KnownBytes.{Keeps};
 ghost use Rattle.ic_machine.specs.Plan.{ArePlans};
 ghost use Rattle.ic_meaning.specs.Plans.{ArePlansOf};
 ghost use Rattle.ic_streams.specs.Streams.{FaultOf, IsAnswered, OfText, TakesAtWithin, TakesTextWithin};
-ghost use Rattle.ic_in_place.specs.Rounds.{AppendsLineOf, CountsRounds, EndsByRounds, HasRounded, IsRoundedTo, MayEnd, ReducesByRounds, stands_still};
+ghost use Rattle.ic_in_place.specs.Rounds.{AppendsLineOf, CountsRounds, EndsByRounds, GoOn, HasRounded, IsRoundedTo, MayEnd, ReducesByRounds, stands_still};
 ghost use Rattle.ic_in_place.specs.Stopping.{arities_of};
 
 use crate::counting::{no_counts, sum_by_rule};
@@ -108,7 +108,7 @@ pub fn reduce_by_rounds<V: Watch, S: Rows<W>, W: Write>(
 }
 
 /// Makes rounds of a system, in place, until no step is possible, a bound or a limit is met, or enough interactions are made as
-/// one is over. What was reached then has its names numbered anew. Answers how many rounds are over, too.
+/// one is over: then it makes no more. What was reached then has its names numbered anew. Answers how many rounds are over, too.
 pub fn round_in_place<V: Watch>(
     alloc: Global,
     system: WideSystem,
@@ -137,8 +137,8 @@ fn read_rounded(
 ) -> Result<(Reduced, u64), AllocError>
     ensures { (rounds enough most : ℕ)
         → MayEnd rounds (Some enough) most stopped.machine.interactions
-        → HasRounded system most taken stopped.given.items stopped.by_rule.items
-        stopped.machine stopped.end
+        → (rounded : HasRounded system most taken stopped.given.items stopped.by_rule.items
+        stopped.machine stopped.end) → GoOn (Some enough) taken rounded.ends.told
         → IfOk result (λ made. IsRoundedTo system rounds enough made.1 made.0) }
 {
     ic_reaching::laws::one_net_is_an_equivalence();
@@ -149,6 +149,8 @@ fn read_rounded(
     ic_reaching::laws::what_is_reached_quiet_is_the_end_of_every_order();
     ic_confluence::laws::same_is_an_equivalence();
     ic_confluence::laws::same_nets_take_the_same_steps();
+    ic_meaning::laws::rounds_in_place_are_rounds();
+    ic_meaning::laws::equations_left_are_all_but_circles();
     crate::laws::name_steps_are_those_of_every_order();
     crate::laws::what_is_put_together_has_no_name_step();
     let reduced = read_stopped(alloc, system, stopped)?;
@@ -196,7 +198,7 @@ fn round_system<V: Watch, S: Rows<W>, W: Write>(
         × MayEnd bounds.rounds enough most made.0.machine.interactions
         × (rounded : HasRounded system.now most made.1
         made.0.given.items made.0.by_rule.items made.0.machine made.0.end)
-        × S.tells system.now rounded.come.rule_numbers rows.old rows.new
+        × GoOn enough made.1 rounded.ends.told × S.tells system.now rounded.come.rule_numbers rows.old rows.new
         (W.contents writer.old) (W.contents writer.new) rounded.ends.told) }
     ensures untold { IfErr result (λ fault. (fault ≡ StreamFault.Memory) ⊎ S.fails fault) }
 {
@@ -226,7 +228,7 @@ fn round_compiled<V: Watch, S: Rows<W>, W: Write>(
         × MayEnd bounds.rounds enough most made.0.machine.interactions
         × (rounded : HasRounded system.now most made.1
         made.0.given.items made.0.by_rule.items made.0.machine made.0.end)
-        × S.tells system.now rounded.come.rule_numbers rows.old rows.new
+        × GoOn enough made.1 rounded.ends.told × S.tells system.now rounded.come.rule_numbers rows.old rows.new
         (W.contents writer.old) (W.contents writer.new) rounded.ends.told) }
     ensures untold { IfErr result (λ fault. (fault ≡ StreamFault.Memory) ⊎ S.fails fault) }
 {

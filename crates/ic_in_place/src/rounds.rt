@@ -1,6 +1,6 @@
 //! Rounds of a machine, in place: its pending pairs are taken in generations.
 
-ghost use Rattle.std.specs.Prelude.{◌≡◌, ◌≢◌, ℕ, ◌+◌, ◌<◌, ◌≤◌, List, [], ◌∷◌, ◌++◌, Option, Some, IfErr, IfOk, IfSome, IfNone, OnOk, length, true};
+ghost use Rattle.std.specs.Prelude.{◌≡◌, ◌≢◌, ℕ, ◌+◌, ◌<◌, ◌≤◌, List, [], ◌∷◌, ◌++◌, Option, Some, IfErr, IfOk, IfSome, IfNone, OnOk, length, false, true};
 ghost use Rattle.std.specs.List.{AllByRecursion};
 ghost use Rattle.ic_machine.specs.declared.generation.Generation.{Generation as AnyGeneration};
 ghost use Rattle.ic_machine.specs.Generations.{Advances, IsWithin};
@@ -9,7 +9,7 @@ ghost use Rattle.ic_machine.specs.Plan.{Plans};
 ghost use Rattle.ic_machine.specs.Runs.{Ran};
 ghost use Rattle.ic_rules.specs.System.{SystemParts};
 ghost use Rattle.ic_streams.specs.declared.fault.StreamFault.{StreamFault as AnyFault};
-ghost use Rattle.ic_in_place.specs.Rounds.{EndsAfter, MayEnd};
+ghost use Rattle.ic_in_place.specs.Rounds.{EndsAfter, GoOn, MayEnd};
 ghost use Rattle.ic_in_place.specs.Told.{RoundOver};
 
 use crate::gauge::{Gauge, Look};
@@ -131,7 +131,7 @@ pub fn run_by_rounds<V: Watch, S: Rows<W>, W: Write>(
     ensures ended { IfOk result (λ ended.
         (most : ℕ) × MayEnd rounds enough most machine.new.interactions
         × (ends : EndsAfter program.now pairs most ended.1 ended.0 machine.old machine.new)
-        × ((s : SystemParts) (numbers : List ℕ) (first : S) (before : Option (List ℕ))
+        × GoOn enough ended.1 ends.told × ((s : SystemParts) (numbers : List ℕ) (first : S) (before : Option (List ℕ))
         → S.tells s numbers first rows.old before (W.contents writer.old) []
         → S.tells s numbers first rows.new before (W.contents writer.new) ends.told)) }
     ensures untold { IfErr result (λ fault. S.fails fault) }
@@ -164,7 +164,8 @@ pub fn run_by_rounds<V: Watch, S: Rows<W>, W: Write>(
 
 /// Whether so many interactions are enough.
 fn is_enough(enough: Option<u64>, interactions: u64) -> bool
-    ensures { result ≡ true → (n : ℕ) × (enough ≡ Some n) × (n ≤ interactions) }
+    ensures enough { result ≡ true → (n : ℕ) × (enough ≡ Some n) × (n ≤ interactions) }
+    ensures more { (n : ℕ) → result ≡ false → enough ≡ Some n → interactions < n }
 {
     match enough {
         Some(number) => number <= interactions,
@@ -200,16 +201,22 @@ fn take_all<V: Watch>(
     requires arities { machine.old.arities ≡ program.now.arities }
     requires within { IsWithin generation.old machine.old.pending }
     requires looks { machine.old.interactions ≤ looks.old.next }
+    requires room { looks.old.next < MOST }
     ensures advances { Advances program.now generation.old generation.new machine.old machine.new }
     ensures over { IfNone result (generation.new.end ≡ 0) }
+    ensures left { IfSome result (λ end. 0 < generation.new.end) }
     ensures broken { IfSome result (λ end. (end ≢ End.Quiet) × (end ≢ End.Steps)) }
     ensures looks { machine.new.interactions ≤ looks.new.next }
+    ensures room { IfNone result (looks.new.next < MOST) }
 {
     while looks.next < MOST {
         let steps = looks.next - machine.interactions();
-        match machine.run_generation(program, generation, steps) {
-            Ok(true) => return None,
-            Ok(false) => {},
+        let run = machine.run_generation(program, generation, steps);
+        if generation.end == 0 {
+            return None;
+        }
+        match run {
+            Ok(_) => {},
             Err(MachineFault::Limit) => return Some(End::Limit),
             Err(MachineFault::Memory) => return Some(End::Memory),
         }

@@ -3,10 +3,11 @@ use Rattle.ic_in_place.specs.Rounds.{MayEnd}
 use Rattle.ic_in_place.proofs.LineByRounds.{LineLaws}
 use Rattle.ic_in_place.proofs.RoundedSystem.{read_so, rounded_to}
 use Rattle.ic_in_place.proofs.RoundsEnough.{EnoughLaws}
+use Rattle.ic_in_place.proofs.RoundsTold.{LeftLaws}
 use Rattle.ic_in_place.proofs.rounded.read_rounded.Goals as goal
 
 pub returns : goal.returns
-returns c = λ rounds enough most may rounded.
+returns c = λ rounds enough most may rounded go_on.
     let reduced = c.in_ok-reduced.reduced in
     let stopped = c.args.stopped in
     let told = c.in_ok-reduced.ensures in
@@ -30,9 +31,10 @@ returns c = λ rounds enough most may rounded.
       told = c.name_steps_are_those_of_every_order.ensures.told;
       together = c.what_is_put_together_has_no_name_step.ensures;
     } in
+    let left : LeftLaws = record { rounds = c.rounds_in_place_are_rounds.ensures; left = c.equations_left_are_all_but_circles.ensures } in
     let read = told.read rounded.bounds rounded.come in
-    let all = read_so c.args.system most c.args.taken stopped.given.items stopped.machine reduced stopped.by_rule.items reduced.by_rule.items stopped.end reduced.end
-    (sym told.by_rule) (sym told.end) (rounded, read.0, read.1, read.2, read.3, read.4, read.5) in
-    rounded_to lines laws c.what_is_reached_quiet_is_the_end_of_every_order.ensures.rounds c.args.system rounds enough most c.args.taken c.rounds_made-rounds.result
+    let all = read_so c.args.system enough most c.args.taken stopped.given.items stopped.machine reduced stopped.by_rule.items reduced.by_rule.items stopped.end reduced.end
+    (sym told.by_rule) (sym told.end) (rounded, read.0, read.1, read.2, read.3, read.4, read.5, go_on) in
+    rounded_to lines laws c.what_is_reached_quiet_is_the_end_of_every_order.ensures.rounds left c.args.system rounds enough most c.args.taken c.rounds_made-rounds.result
     stopped.given.items stopped.machine reduced
-    (subst (λ (n : ℕ). MayEnd rounds (Some enough) most n) (sym told.interactions) may) all c.rounds_made-rounds.ensures
+    (subst (λ (n : ℕ). MayEnd rounds (Some enough) most n) (sym told.interactions) may) told.interactions all c.rounds_made-rounds.ensures

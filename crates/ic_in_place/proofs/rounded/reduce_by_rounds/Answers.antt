@@ -15,7 +15,7 @@ returns-clause-line g c =
     let any = c.in_ok-stopped.ensures.made in
     let most : any.0 ≡ c.args.bounds.rounds = all_may c.args.bounds.rounds any.0 c.in_ok-stopped.stopped.machine.interactions any.1 in
     let made = subst (λ (n : ℕ). (rounded : HasRounded c.in-Ok.found n c.in_ok-stopped.rounds c.in_ok-stopped.stopped.given.items c.in_ok-stopped.stopped.by_rule.items
-    c.in_ok-stopped.stopped.machine c.in_ok-stopped.stopped.end) × P rounded.come.rule_numbers rounded.ends.told) most (any.2, any.3) in
+    c.in_ok-stopped.stopped.machine c.in_ok-stopped.stopped.end) × P rounded.come.rule_numbers rounded.ends.told) most (any.2, any.4) in
     let of = c.in_ok-line.ensures.of made.0.bounds made.0.come in
     let told = told_so P c.in-Ok.found c.args.bounds.rounds c.in_ok-stopped.rounds c.in_ok-stopped.stopped.given.items c.in_ok-stopped.stopped.machine c.args.asked
     c.in_ok-line.outcome c.in_ok-line.line.items c.in_ok-stopped.stopped.by_rule.items c.in_ok-line.outcome.by_rule.items c.in_ok-stopped.stopped.end c.in_ok-line.outcome.end
