@@ -1,37 +1,17 @@
 -- Lemmas: rounds that go on from the net of other rounds.
-use Rattle.std.proofs.Common.{◌≡◌, ℕ, zero, suc, ◌+◌, ◌<◌, List, [], ◌∷◌, ◌++◌, Option, None, Some, length, refl, sym, ap, ◌∙◌, arith, subst as transport}
-use Rattle.std.specs.List.{AllByRecursion}
-use Rattle.std.specs.Option.{option_map, option_map_or, option_to_list}
+use Rattle.std.proofs.Common.{◌≡◌, ℕ, ◌+◌, length, sym, arith, subst as transport}
 use Rattle.std.specs.Prelude.{IsPermutation, IsTrue}
 use Rattle.std.proofs.lemmas.List.Sorted.{length_permutation}
-use Rattle.ic_term.specs.Tree.{Pair}
-use Rattle.ic_term.specs.Configuration.{Configuration, configuration_names}
+use Rattle.ic_term.specs.Configuration.{Configuration}
 use Rattle.ic_term.specs.Symbol.{is_over}
-use Rattle.ic_rules.specs.Rule.{Rule}
 use Rattle.ic_rules.specs.RuleSet.{IsRuleSet, Rules}
-use Rattle.ic_round.specs.ActivePlaces.{active, active_from}
-use Rattle.ic_round.specs.Firing.{Active, active_pair}
+use Rattle.ic_round.specs.ActivePlaces.{active}
 use Rattle.ic_round.specs.Naming.{HasNames}
-use Rattle.ic_round.specs.Rounds.{iterate, round}
+use Rattle.ic_round.specs.Rounds.{iterate}
 use Rattle.ic_generations.specs.Firings.{rules_of}
 use Rattle.ic_confluence.specs.Sameness.{Same}
 use Rattle.ic_reaching.specs.OneNet.{SameButNext, raised}
-
--- rounds, and then more of them
-pub rounds_on : (rs : List Rule) (m n : ℕ) (c : Configuration) → iterate rs (m + n) c ≡ iterate rs m (iterate rs n c)
-rounds_on rs zero n c = let same : 0 + n ≡ n = omega arith in ap (λ (k : ℕ). iterate rs k c) same
-rounds_on rs (suc m) n c = let same : suc m + n ≡ suc (m + n) = omega arith in ap (λ (k : ℕ). iterate rs k c) same ∙ ap (round rs) (rounds_on rs m n c)
-
--- as many rules fire as equations are active
-rules_active : (rs : List Rule) (i : ℕ) (es : List Pair) → length (rules_of rs es) ≡ length (active_from rs i es)
-rules_active rs i [] = refl
-rules_active rs i (p ∷ es) = at (active_pair rs p) (rules_active rs (i + 1) es)
-  where
-    at : (o : Option Active) → length (rules_of rs es) ≡ length (active_from rs (i + 1) es)
-        → length (option_to_list (option_map (λ a. a.rule) o) ++ rules_of rs es)
-        ≡ length (option_map_or (λ a. i ∷ active_from rs (i + 1) es) o (active_from rs (i + 1) es))
-    at None rest = rest
-    at (Some a) rest = omega (arith, rest)
+use Rattle.ic_in_place.specs.lemmas.RoundsOn.{raised_names, rounds_on, rules_active}
 
 -- what laws say of rounds
 pub record RoundLaws : Type 0 where
@@ -41,14 +21,6 @@ pub record RoundLaws : Type 0 where
       → SameButNext (iterate rs.rules n c) (iterate rs.rules n d)
   pub rules : (rs : Rules) (c d : Configuration) → IsRuleSet rs → IsTrue (is_over rs.symbols c) → HasNames c → SameButNext c d
       → IsPermutation (rules_of rs.rules c.equations) (rules_of rs.rules d.equations)
-
--- names stay below a number that is raised
-still_below : (next more : ℕ) (ns : List ℕ) → AllByRecursion (λ n. n < next) ns → AllByRecursion (λ n. n < next + more) ns
-still_below next more [] all = all
-still_below next more (n ∷ ns) all = (let low = all.0 in omega (arith, low), still_below next more ns all.1)
-
-raised_names : (more : ℕ) (c : Configuration) → HasNames c → HasNames (raised more c)
-raised_names more c named = record { below = still_below c.next more (configuration_names c) named.below; twice = named.twice }
 
 -- a configuration of the same net keeps names where its fresh ones begin high enough
 pub named_above : ((c d : Configuration) → Same c d → HasNames c → HasNames d) → (c d : Configuration) → HasNames c → (same : SameButNext c d)
