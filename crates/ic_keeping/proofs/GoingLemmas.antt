@@ -1,5 +1,5 @@
 -- What was kept on the way of a reduction, and what a state leads to.
-use Rattle.std.proofs.Common.{◌≡◌, ◌≢◌, ◌⊎◌, inl, inr, ⊎_elim, ◌∙◌, ℕ, ◌<◌, ◌≤◌, Bool, true, List, Option, None, Some, Ok, Err, length, max, refl, sym, ap, subst, arith}
+use Rattle.std.proofs.Common.{◌≡◌, ◌≢◌, ◌⊎◌, inl, inr, ⊎_elim, ◌∙◌, ℕ, ◌<◌, ◌≤◌, Bool, true, List, [], ◌∷◌, ◌++◌, Option, None, Some, Ok, Err, length, max, refl, sym, subst, arith}
 use Rattle.std.specs.Prelude.{◌↔◌, IsNone}
 use Rattle.std.specs.List.{AllByRecursion}
 use Rattle.std.proofs.lemmas.Bool.{cases_lt}
@@ -8,6 +8,7 @@ use Rattle.ic_in_place.specs.declared.running.Bounds.{Bounds}
 use Rattle.ic_in_place.specs.declared.running.End.{End}
 use Rattle.ic_in_place.specs.declared.running.End.TheVariants.{Quiet, Steps}
 use Rattle.ic_in_place.specs.declared.stream.Asked.{Asked}
+use Rattle.ic_in_place.specs.Counting.{AreCounts, AreOfRounds, rules_in}
 use Rattle.ic_kept.specs.lemmas.CourseLaws.{kept_after}
 use Rattle.ic_term.specs.Configuration.{Configuration}
 use Rattle.ic_round.specs.Quiet.{IsQuiet}
@@ -17,6 +18,7 @@ use Rattle.ic_state.specs.declared.state.State.{State}
 use Rattle.ic_frames.specs.declared.faults.KeepFault.{KeepFault}
 use Rattle.ic_kept.specs.declared.keeper.Keeper.{Keeper}
 use Rattle.ic_kept.specs.Course.{IsKeep, Course, Way, no_keep, one_more, all_answered, last_refused, Leads, stays, goes_on}
+use Rattle.ic_rules.specs.Rule.{Rule}
 use Rattle.ic_rules.specs.System.{SystemParts}
 use Rattle.ic_term.specs.declared.limits.TheConstants.{MAX_WIDE_NODES}
 use Rattle.ic_state.specs.State.{Kept, IsKept, kept_by, state_bytes}
@@ -26,7 +28,7 @@ use Rattle.ic_keeping.specs.declared.fault.KeepingFault.TheVariants.{Limit, Memo
 use Rattle.ic_keeping.specs.declared.going.Ended.{Ended}
 use Rattle.ic_keeping.specs.inner.Pieces.{ComesTogether, StopsAPiece}
 use Rattle.ic_keeping.specs.Life.{GoesOn, HasAsFar, HasRun, HasState, IsTold, StopsARun, StopsFrom}
-use Rattle.ic_keeping.specs.Way.{AreAlike, GoesFurther, IsAnswer, IsAnswerByRounds, IsAsFar, IsFormFrom, IsKeptAfter, IsReachedFrom, IsStateOf}
+use Rattle.ic_keeping.specs.Way.{AreAlike, GoesFurther, IsAnswer, IsAnswerByRounds, IsAsFar, IsFormFrom, IsKeptAfter, IsNoLess, IsReachedFrom, IsStateOf}
 use Rattle.ic_keeping.proofs.ByRounds.{alike_itself, alike_on}
 use Rattle.ic_keeping.proofs.Refusing.{of_two}
 use Rattle.ic_keeping.proofs.WayLemmas.{past_state}
@@ -34,17 +36,28 @@ use Rattle.ic_keeping.proofs.WayLemmas.{past_state}
 no_less : (n : ℕ) (ended : Bool) (k : Kept) → GoesFurther n ended k → n ≤ k.interactions
 no_less n ended k further = ⊎_elim (λ more. omega (arith, more)) (λ same. omega (arith, same.0)) further
 
+pub no_less_itself : (k : Kept) → IsNoLess k k
+no_less_itself k = record { interactions = omega arith; alike = alike_itself k.rounds }
+
+pub no_less_on : (from middle k : Kept) → IsNoLess from middle → IsNoLess middle k → IsNoLess from k
+no_less_on from middle k one two = record {
+  interactions = let first = one.interactions in let then_too = two.interactions in omega (arith, first, then_too);
+  alike = alike_on from.rounds middle.rounds k.rounds one.alike two.alike;
+}
+
 -- what is led to is a state of the reduction that goes no less far
 pub leads_form : ((k other : Kept) → IsKept k → IsKept other → state_bytes k ≡ state_bytes other → k ≡ other) → (s : SystemParts) (first : Kept) → IsKept first → IsStateOf s first
-    → (bytes last : List ℕ) → bytes ≡ state_bytes first → Leads (IsKeptAfter s) bytes last → IsFormFrom s first.interactions last
-leads_form one s first is_kept is bytes last same (stays x) = (first, is_kept, is, omega arith, same)
+    → (bytes last : List ℕ) → bytes ≡ state_bytes first → Leads (IsKeptAfter s) bytes last → IsFormFrom s first last
+leads_form one s first is_kept is bytes last same (stays x) = (first, is_kept, is, no_less_itself first, same)
 leads_form one s first is_kept is bytes last same (goes_on x state next leads after) =
     let was = leads_form one s first is_kept is bytes state same leads in
-    let before : after.before ≡ was.0 = one after.before was.0 after.was_kept was.1 (sym after.old_is ∙ was.4) in (
+    let before : was.0 ≡ after.before = one was.0 after.before was.1 after.was_kept (sym was.4 ∙ after.old_is) in
+    let further : IsNoLess after.before after.after =
+    record { interactions = no_less after.before.interactions after.before.ended after.after after.further; alike = after.alike } in (
       after.after,
       after.is_kept,
       after.from.is,
-      omega (arith, was.3, ap (λ (k : Kept). k.interactions) before, no_less after.before.interactions after.before.ended after.after after.further),
+      no_less_on first after.before after.after (subst (λ (x : Kept). IsNoLess first x) before was.3) further,
       after.new_is,
     )
 
@@ -55,13 +68,14 @@ pub record IsEndOf (s : SystemParts) (bounds : Bounds) (most : ℕ) (k : Kept) (
   pub answer : IsAnswer s within e (kept_by state)
   pub onward : IsReachedFrom s k (kept_by state)
   pub by_rounds : (made : ℕ) → k.rounds ≡ Some made → (n : ℕ) × (rounds ≡ Some n) × (n ≤ max most made)
-      × IsAnswerByRounds s most n e answer.answer
+      × IsAnswerByRounds s most n e answer.answer state.interactions state.by_rule.items
+  pub any_order : k.rounds ≡ None → rounds ≡ None
   pub between : (made : ℕ) → k.rounds ≡ Some made → made < most → (e ≡ Quiet) ⊎ (e ≡ Steps) → state.rounds ≡ rounds
 
 has_run_so : (s : SystemParts) (bounds : Bounds) (most : ℕ) (asked : Asked) (k : Kept) (run : Ended) → IsTold s asked run → IsEndOf s bounds most k run.rounds run.end run.state
     → HasRun s bounds most asked k run
 has_run_so s bounds most asked k run told is =
-    record { within = is.within; bounded = is.bounded; answer = is.answer; told = told; onward = is.onward; by_rounds = is.by_rounds; between = is.between }
+    record { within = is.within; bounded = is.bounded; answer = is.answer; told = told; onward = is.onward; by_rounds = is.by_rounds; any_order = is.any_order; between = is.between }
 
 pub run_is : (s : SystemParts) (bounds : Bounds) (most : ℕ) (asked : Asked) (k : Kept) (state : State) (e : End) (run : Ended) → run.state ≡ state → run.end ≡ e
     → IsTold s asked run → IsEndOf s bounds most k run.rounds e state → HasRun s bounds most asked k run
@@ -69,23 +83,43 @@ run_is s bounds most asked k state e run same ends told is =
     has_run_so s bounds most asked k run told
     (subst (λ (x : End). IsEndOf s bounds most k run.rounds x run.state) (sym ends) (subst (λ (x : State). IsEndOf s bounds most k run.rounds e x) (sym same) is))
 
+-- no pair has fired, and so none in no round
+none_fired : (rs : List Rule) (c : Configuration) (n interactions : ℕ) (e : End) (by_rule : List ℕ) → AreOfRounds rs c n e interactions by_rule → interactions ≡ 0 → AreOfRounds rs c 0 e interactions by_rule
+none_fired rs c n interactions e by_rule of none =
+    let count = of.all in
+    record {
+      since = [];
+      all = none;
+      counts = subst (λ (l : List ℕ). AreCounts (length rs) l by_rule) (nothing (rules_in rs n c ++ of.since) (omega (arith, count, none))) of.counts;
+      few = omega arith;
+      whole = λ either. refl;
+    }
+  where
+    nothing : (l : List ℕ) → length l ≡ 0 → l ≡ []
+    nothing [] long = refl
+    nothing (i ∷ l) long = absurd (omega (arith, long))
+
 -- how many rounds are told of an end
-pub end_by_rounds : (s : SystemParts) (most top : ℕ) (e : End) (answer : Configuration) (told over : Option ℕ) (n : ℕ) → over ≡ Some n → n ≤ top
-    → ((e ≡ Quiet) ⊎ (e ≡ Steps) → told ≡ over) → ((m : ℕ) → over ≡ Some m → (l : ℕ) × (told ≡ Some l) × (l ≤ m))
+pub end_by_rounds : (s : SystemParts) (most top : ℕ) (e : End) (answer : Configuration) (interactions : ℕ) (by_rule : List ℕ) (told over : Option ℕ) (n : ℕ) → over ≡ Some n → n ≤ top
+    → ((e ≡ Quiet) ⊎ (e ≡ Steps) → told ≡ over) → ((m : ℕ) → over ≡ Some m → (told ≡ Some m) ⊎ ((told ≡ Some 0) × (interactions ≡ 0)))
     → ((e ≡ Quiet) ⊎ (e ≡ Steps) → OneNet answer (iterate s.rules.rules n s.config)) → ((m : ℕ) → m < n → IsQuiet s.rules.rules (iterate s.rules.rules m s.config) → ⊥) → (e ≡ Steps → most ≤ n)
-    → (l : ℕ) × (told ≡ Some l) × (l ≤ top) × IsAnswerByRounds s most l e answer
-end_by_rounds s most top e answer told over n is low between some net needed all =
-    let few = some n is in
-    let same : (e ≡ Quiet) ⊎ (e ≡ Steps) → n ≡ few.0 = λ either. let one : Some n ≡ Some few.0 = sym is ∙ sym (between either) ∙ few.1 in cc (one) in (
-      few.0,
-      few.1,
-      omega (arith, low, few.2),
+    → AreOfRounds s.rules.rules s.config n e interactions by_rule
+    → (l : ℕ) × (told ≡ Some l) × (l ≤ top) × IsAnswerByRounds s most l e answer interactions by_rule
+end_by_rounds s most top e answer interactions by_rule told over n is low between some net needed all fired = ⊎_elim
+    (λ same. (n, same, low, record { net = net; needed = needed; all = all; fired = fired }))
+    (λ none.
+    let same : (e ≡ Quiet) ⊎ (e ≡ Steps) → n ≡ 0 = λ either. let one : Some n ≡ Some 0 = sym is ∙ sym (between either) ∙ none.0 in cc (one) in (
+      0,
+      none.0,
+      omega arith,
       record {
         net = λ either. subst (λ (k : ℕ). OneNet answer (iterate s.rules.rules k s.config)) (same either) (net either);
-        needed = λ m low. needed m (omega (arith, low, few.2));
+        needed = λ m few. absurd (omega (arith, few));
         all = λ steps. omega (arith, all steps, same (inr steps));
+        fired = none_fired s.rules.rules s.config n interactions e by_rule fired none.1;
       },
-    )
+    ))
+    (some n is)
 
 -- how far a run from any state has gone on with such a state
 pub record GoneTo (bounds : Bounds) (old : State) (e : End) (state : State) : Type 0 where

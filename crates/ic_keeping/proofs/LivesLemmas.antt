@@ -1,5 +1,5 @@
 -- What is found after any lives of a reduction is one of its states.
-use Rattle.std.proofs.Common.{◌≡◌, ◌⊎◌, ⊎_elim, ◌∙◌, ℕ, ◌≤◌, Bool, List, refl, sym, subst, arith}
+use Rattle.std.proofs.Common.{◌≡◌, ◌⊎◌, ⊎_elim, ◌∙◌, ℕ, ◌≤◌, Bool, List, refl, sym, subst}
 use Rattle.ic_disk.specs.declared.disk.Disk.{Ghosts}
 use Rattle.ic_disk.specs.Images.{Within}
 use Rattle.ic_disk.specs.Time.{LeftSince}
@@ -15,21 +15,21 @@ use Rattle.ic_kept.specs.lemmas.CourseLaws.{held_at_end, model_after}
 use Rattle.ic_kept.specs.lemmas.LivesLaws.{Stands, stands, opened_is, opened_leads}
 use Rattle.ic_rules.specs.System.{SystemParts}
 use Rattle.ic_state.specs.State.{Kept, IsKept, kept_by, state_bytes}
-use Rattle.ic_keeping.specs.Way.{IsFormFrom, IsKeptAfter, IsStateOf}
+use Rattle.ic_keeping.specs.Way.{IsFormFrom, IsKeptAfter, IsNoLess, IsStateOf}
 use Rattle.ic_keeping.specs.declared.beginning.ResumeFault.{ResumeFault}
 use Rattle.ic_keeping.specs.declared.beginning.Start.{Start}
 use Rattle.ic_keeping.specs.declared.going.Ended.{Ended}
 use Rattle.ic_keeping.specs.inner.Pieces.{EndsOnWay, StopsOnWay}
 use Rattle.ic_keeping.specs.Life.{HandsBack, HasEnded, HoldAState, IsFirstLife, IsLife, IsOpened, IsStartOf, KeepModel, KeepsOn, StopsAt}
-use Rattle.ic_keeping.proofs.GoingLemmas.{leads_form}
+use Rattle.ic_keeping.proofs.GoingLemmas.{leads_form, no_less_on}
 
 -- the state that is found is the one that is held
 pub held_is : ((state other a b : List ℕ) → Hold state a b → Hold other a b → state ≡ other) → ((k other : Kept) → IsKept k → IsKept other → state_bytes k ≡ state_bytes other → k ≡ other)
-    → (s : SystemParts) (least : ℕ) (a b : List ℕ) (k : Kept) → IsKept k → Hold (state_bytes k) a b → HoldOne (IsFormFrom s least) a b → IsStateOf s k × (least ≤ k.interactions)
-held_is one_held one_state s least a b k is_kept found held =
+    → (s : SystemParts) (from : Kept) (a b : List ℕ) (k : Kept) → IsKept k → Hold (state_bytes k) a b → HoldOne (IsFormFrom s from) a b → IsStateOf s k × IsNoLess from k
+held_is one_held one_state s from a b k is_kept found held =
     let form = held.1 in
     let same : form.0 ≡ k = one_state form.0 k form.1 is_kept (sym form.4 ∙ one_held held.0 (state_bytes k) a b held.2 found) in
-    (subst (λ (x : Kept). IsStateOf s x) same form.2, subst (λ (x : Kept). least ≤ x.interactions) same form.3)
+    (subst (λ (x : Kept). IsStateOf s x) same form.2, subst (λ (x : Kept). IsNoLess from x) same form.3)
 
 module _ {D : Type 0} (keeps_model : D → Bool) (content : D → List ℕ) (image : D → List ℕ → Type 0) (clock : D → ℕ) (left : D → ℕ → List ℕ → Type 0)
     (content_is_image : (disk : D) → image disk (content disk)) (one_held : (state other a b : List ℕ) → Hold state a b → Hold other a b → state ≡ other)
@@ -40,10 +40,10 @@ module _ {D : Type 0} (keeps_model : D → Bool) (content : D → List ℕ) (ima
   there = stands keeps_model content image clock left content_is_image one_held (IsKeptAfter s) (state_bytes begun) kept coming one other lives
 
   module _ (is_kept : IsKept begun) (is : IsStateOf s begun) where
-    pub kept_form : IsFormFrom s begun.interactions kept
+    pub kept_form : IsFormFrom s begun kept
     kept_form = leads_form one_state s begun is_kept is (state_bytes begun) kept refl there.chain
 
-    form_held : (state : List ℕ) → Hold state (content one) (content other) → HoldOne (IsFormFrom s begun.interactions) (content one) (content other)
+    form_held : (state : List ℕ) → Hold state (content one) (content other) → HoldOne (IsFormFrom s begun) (content one) (content other)
     form_held state held = (
       state,
       leads_form one_state s begun is_kept is (state_bytes begun) state refl
@@ -52,7 +52,7 @@ module _ {D : Type 0} (keeps_model : D → Bool) (content : D → List ℕ) (ima
     )
 
     -- so the files hold one
-    pub one_is_held : HoldOne (IsFormFrom s begun.interactions) (content one) (content other)
+    pub one_is_held : HoldOne (IsFormFrom s begun) (content one) (content other)
     one_is_held = ⊎_elim
         (λ old. form_held kept old)
         (λ new. form_held coming new)
@@ -62,13 +62,13 @@ module _ {D : Type 0} (keeps_model : D → Bool) (content : D → List ℕ) (ima
       pub found_as : (state_bytes k ≡ kept) ⊎ (state_bytes k ≡ coming)
       found_as = opened_is keeps_model content image clock left content_is_image one_held (IsKeptAfter s) (state_bytes begun) kept coming one other there (state_bytes k) held
 
-      pub found_is : IsStateOf s k × (begun.interactions ≤ k.interactions)
-      found_is = held_is one_held one_state s begun.interactions (content one) (content other) k k_kept held one_is_held
+      pub found_is : IsStateOf s k × IsNoLess begun k
+      found_is = held_is one_held one_state s begun (content one) (content other) k k_kept held one_is_held
 
 -- at the end of a life they hold one, too
 pub life_holds : {D : Type 0} (disk : Ghosts D) → ((d : D) (t : ℕ) (file : List ℕ) → t ≤ disk.clock d → disk.image d file → LeftSince (disk.left d) t file) → ((d : D) → disk.image d (disk.content d))
     → ((k other : Kept) → IsKept k → IsKept other → state_bytes k ≡ state_bytes other → k ≡ other)
-    → (s : SystemParts) (found : Kept) (first second : D) (k n : Keeper D) → IsLife disk s found first second k n → HoldAState disk s found.interactions (newest_of n) (other_of n)
+    → (s : SystemParts) (found : Kept) (first second : D) (k n : Keeper D) → IsLife disk s found first second k n → HoldAState disk s found (newest_of n) (other_of n)
 life_holds disk is_left now one s found first second k n life =
     let opened = life.opened in
     let end = held_at_end disk.keeps disk.image disk.clock disk.left (IsKeptAfter s) is_left k n (state_bytes found) opened.model opened.keeps life.way
@@ -79,15 +79,15 @@ life_holds disk is_left now one s found first second k n life =
     }
 
 -- and so do those that a fault hands back
-pub holds_back : {D : Type 0} (disk : Ghosts D) (s : SystemParts) (least : ℕ) (n : Keeper D) (fault : ResumeFault D) → HandsBack n fault → HoldAState disk s least (newest_of n) (other_of n)
-    → HoldAState disk s least fault.first fault.second
-holds_back {D} disk s least n fault back holds =
-    subst (λ (d : D). HoldAState disk s least d fault.second) (sym back.0) (subst (λ (d : D). HoldAState disk s least (newest_of n) d) (sym back.1) holds)
+pub holds_back : {D : Type 0} (disk : Ghosts D) (s : SystemParts) (from : Kept) (n : Keeper D) (fault : ResumeFault D) → HandsBack n fault → HoldAState disk s from (newest_of n) (other_of n)
+    → HoldAState disk s from fault.first fault.second
+holds_back {D} disk s from n fault back holds =
+    subst (λ (d : D). HoldAState disk s from d fault.second) (sym back.0) (subst (λ (d : D). HoldAState disk s from (newest_of n) d) (sym back.1) holds)
 
-pub holds_less : {D : Type 0} (disk : Ghosts D) (s : SystemParts) (some least : ℕ) (first second : D) → least ≤ some → HoldAState disk s some first second → HoldAState disk s least first second
-holds_less disk s some least first second less holds =
+pub holds_less : {D : Type 0} (disk : Ghosts D) (s : SystemParts) (some from : Kept) (first second : D) → IsNoLess from some → HoldAState disk s some first second → HoldAState disk s from first second
+holds_less disk s some from first second less holds =
     let form = holds.held.1 in
-    record { model = holds.model; held = (holds.held.0, (form.0, form.1, form.2, omega (arith, less, form.3), form.4), holds.held.2) }
+    record { model = holds.model; held = (holds.held.0, (form.0, form.1, form.2, no_less_on from some form.0 less form.3, form.4), holds.held.2) }
 
 pub stops_at : {D : Type 0} {disk : Ghosts D} (s : SystemParts) (start : Start) (old new : Keeper D) (fault : ResumeFault D) → IsStartOf s start → StopsOnWay disk start old new fault
     → StopsAt s (kept_by start.state) old new fault
@@ -95,9 +95,9 @@ stops_at s start old new fault is stops = record { back = stops.back; why = stop
 
 -- a life from a state that was found: it has ended, or stopped
 module _ {D : Type 0} (disk : Ghosts D) (s : SystemParts) where
-  pub ends_life : (bounds : Bounds) (most : ℕ) (asked : Asked) (least : ℕ) (first second : D) (start : Start) (keeper : Keeper D) (run : Ended) (new : Keeper D) → IsStartOf s start → IsKept (kept_by start.state)
-      → IsOpened disk (kept_by start.state) first second keeper → least ≤ start.state.interactions → EndsOnWay disk bounds most asked start keeper run new → HasEnded disk s bounds most asked least first second run new
-  ends_life bounds most asked least first second start keeper run new is is_kept opened no_less ends = record {
+  pub ends_life : (bounds : Bounds) (most : ℕ) (asked : Asked) (from : Kept) (first second : D) (start : Start) (keeper : Keeper D) (run : Ended) (new : Keeper D) → IsStartOf s start → IsKept (kept_by start.state)
+      → IsOpened disk (kept_by start.state) first second keeper → IsNoLess from (kept_by start.state) → EndsOnWay disk bounds most asked start keeper run new → HasEnded disk s bounds most asked from first second run new
+  ends_life bounds most asked from first second start keeper run new is is_kept opened no_less ends = record {
     found = kept_by start.state;
     keeper = keeper;
     life = record { is_kept = is_kept; state = is.state; opened = opened; way = ends.way s is is_kept };

@@ -1,6 +1,5 @@
 -- A net with its names numbered anew is as quiet, wherever fresh names begin.
-use Rattle.std.proofs.Common.{ℕ, ◌+◌, ◌<◌, ◌≤◌, ◌≡◌, List, [], ◌∷◌, Bool, refl, sym, ap, subst, arith}
-use Rattle.std.specs.List.{AllByRecursion}
+use Rattle.std.proofs.Common.{ℕ, ◌+◌, ◌≤◌, ◌≡◌, List, [], Bool, refl, sym, ap, subst}
 use Rattle.std.specs.Prelude.{◌↔◌, ◌&&◌, IsTrue, Option, None, Some, is_none, option_map}
 use Rattle.ic_term.specs.Configuration.{Configuration, configuration_names, occurrences}
 use Rattle.ic_term.specs.Symbol.{is_over}
@@ -13,6 +12,7 @@ use Rattle.ic_round.specs.Quiet.{is_inert, is_quiet, IsQuiet}
 use Rattle.ic_confluence.specs.Sameness.{Same}
 use Rattle.ic_reaching.specs.OneNet.{SameButNext, raised}
 use Rattle.ic_text.specs.declared.limits.TheConstants.{MAX_NAME}
+use Rattle.ic_in_place.specs.lemmas.RoundsOn.{raised_names}
 
 -- what laws of the crates below say of quiet nets
 pub record QuietLaws : Type 0 where
@@ -30,13 +30,6 @@ next_test rs next c = ap (λ (b : Bool). is_inert rs c && b) (either_none (appli
 
 quiet_from : QuietLaws → (rs : List Rule) (next : ℕ) (c : Configuration) → IsQuiet rs c → IsQuiet rs (record c { next = next })
 quiet_from laws rs next c quiet = (laws.test rs (record c { next = next })).0 (subst (λ (b : Bool). IsTrue b) (sym (next_test rs next c)) ((laws.test rs c).1 quiet))
-
-still_below : (n m : ℕ) (ns : List ℕ) → n ≤ m → AllByRecursion (λ k. k < n) ns → AllByRecursion (λ k. k < m) ns
-still_below n m [] le all = tt
-still_below n m (k ∷ ks) le all = (omega (arith, all.0, le), still_below n m ks le all.1)
-
-raised_names : (more : ℕ) (c : Configuration) → HasNames c → HasNames (raised more c)
-raised_names more c is = record { below = still_below c.next (c.next + more) (configuration_names c) (omega arith) is.below; twice = is.twice }
 
 pub quiet_too : QuietLaws → (rs : Rules) (c : Configuration) → HasNames c → IsRuleSet rs → IsTrue (is_over rs.symbols c)
     → ((x : ℕ) → occurrences x (configuration_names c) ≡ 1 → x ≤ MAX_NAME) → IsQuiet rs.rules c → (next : ℕ) → IsQuiet rs.rules (record (renumbered c) { next = next })

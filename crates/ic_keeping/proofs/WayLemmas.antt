@@ -222,7 +222,7 @@ module _ (naming : NamingLaws) (laws : ReachingLaws) (s t : SystemParts) (sound 
     }
 
     pub reached_from : QuietLaws → TellingLaws → k.millis ≤ new.millis → (new.ended ≡ true → end ≡ Quiet) → IsWhole new.words → (n : ℕ) → length (forest new.words) ≡ new.terms + 2 * n
-        → IsAfterRounds s new.rounds (configuration_of new.words new.terms new_next) → IsReachedFrom s first new
+        → IsAfterRounds s new.rounds (configuration_of new.words new.terms new_next) new.interactions new.by_rule → IsReachedFrom s first new
     reached_from quiet_laws telling later ended whole n counted rounds = record {
       was = from.was;
       is = record {

@@ -29,7 +29,7 @@ use Rattle.ic_keeping.specs.declared.beginning.Start.{Start}
 use Rattle.ic_keeping.specs.declared.fault.KeepingFault.{KeepingFault}
 use Rattle.ic_keeping.specs.declared.fault.KeepingFault.TheVariants.{Device, Keep, Limit, Memory, NotEmpty, Open, Unsound}
 use Rattle.ic_keeping.specs.declared.going.Ended.{Ended}
-use Rattle.ic_keeping.specs.Way.{ComesPastLimits, IsAnswer, IsAnswerByRounds, IsAsFar, IsFormFrom, IsKeptAfter, IsReachedFrom, IsStateOf}
+use Rattle.ic_keeping.specs.Way.{ComesPastLimits, IsAnswer, IsAnswerByRounds, IsAsFar, IsFormFrom, IsKeptAfter, IsNoLess, IsReachedFrom, IsStateOf}
 
 -- with what the reduction of this system begins or goes on: its rules, and a state of it
 pub record IsStartOf (s : SystemParts) (start : Start) : Type 0 where
@@ -50,7 +50,8 @@ pub record IsTold (s : SystemParts) (asked : Asked) (ended : Ended) : Type 0 whe
   pub unstuck : ended.end ≢ Quiet → IsNone ended.stuck
 
 -- A run from this state of the reduction has ended so. Its answer is one of the system, and is reached from that state. In any
--- order it is one within these bounds. By rounds it is the net after as many as are told, at most so many, or as were made before.
+-- order it is one within these bounds, and no rounds are told. By rounds it is the net after as many as are told, at most so many,
+-- or as were made before.
 pub record HasRun (s : SystemParts) (bounds : Bounds) (most : ℕ) (asked : Asked) (k : Kept)
     (run : Ended) : Type 0 where
   pub within : Bounds
@@ -60,6 +61,8 @@ pub record HasRun (s : SystemParts) (bounds : Bounds) (most : ℕ) (asked : Aske
   pub onward : IsReachedFrom s k (kept_by run.state)
   pub by_rounds : (made : ℕ) → k.rounds ≡ Some made → (rounds : ℕ) × (run.rounds ≡ Some rounds)
       × (rounds ≤ max most made) × IsAnswerByRounds s most rounds run.end answer.answer
+      run.state.interactions run.state.by_rule.items
+  pub any_order : k.rounds ≡ None → run.rounds ≡ None
   pub between : (made : ℕ) → k.rounds ≡ Some made → made < most
       → (run.end ≡ Quiet) ⊎ (run.end ≡ Steps) → run.state.rounds ≡ run.rounds
 
@@ -149,10 +152,10 @@ module _ {D : Type 0} (disk : Ghosts D) where
   HasFailed first second fault = OneMore (disk.failures first) (disk.failures fault.first)
       ⊎ OneMore (disk.failures second) (disk.failures fault.second)
 
-  -- reads give files that hold a state of the reduction of this system, with no fewer interactions than these
-  pub record HoldAState (s : SystemParts) (least : ℕ) (first second : D) : Type 0 where
+  -- reads give files that hold a state of the reduction of this system, which goes no less far than this one
+  pub record HoldAState (s : SystemParts) (from : Kept) (first second : D) : Type 0 where
     pub model : KeepModel first second
-    pub held : HoldOne (IsFormFrom s least) (disk.content first) (disk.content second)
+    pub held : HoldOne (IsFormFrom s from) (disk.content first) (disk.content second)
 
   -- a crash now leaves this state
   abbrev pub HasState : Kept → Keeper D → Type 0
@@ -212,12 +215,12 @@ module _ {D : Type 0} (disk : Ghosts D) where
     pub life : IsLife s begun first second keeper n
 
   -- A life has come to its end: it has found a state, and gone on from there.
-  pub record HasEnded (s : SystemParts) (bounds : Bounds) (most : ℕ) (asked : Asked) (least : ℕ)
+  pub record HasEnded (s : SystemParts) (bounds : Bounds) (most : ℕ) (asked : Asked) (from : Kept)
       (first second : D) (run : Ended) (n : Keeper D) : Type 0 where
     pub found : Kept
     pub keeper : Keeper D
     pub life : IsLife s found first second keeper n
-    pub no_less : least ≤ found.interactions
+    pub no_less : IsNoLess from found
     pub has_run : HasRun s bounds most asked found run
     pub on : GoesOn bounds found run
     pub kept : EndsBetween found run → HasAsFar s (kept_by run.state) n

@@ -20,7 +20,7 @@ use Rattle.ic_reaching.specs.Reaching.{Reaches}
 use Rattle.ic_in_place.specs.declared.running.Bounds.{Bounds}
 use Rattle.ic_in_place.specs.declared.running.End.{End}
 use Rattle.ic_in_place.specs.declared.running.End.TheVariants.{Quiet, Steps, Nodes, Limit, Memory}
-use Rattle.ic_in_place.specs.Counting.{AreCounts}
+use Rattle.ic_in_place.specs.Counting.{AreCounts, AreOfRounds, rules_in}
 use Rattle.ic_in_place.specs.Reducing.{CanInteract, IsPutTogether}
 use Rattle.ic_state.specs.State.{Kept, IsKept, state_bytes}
 
@@ -45,15 +45,20 @@ pub record IsSound (s : SystemParts) : Type 0 where
   pub over : IsTrue (is_over s.rules.symbols s.config)
   pub names : HasNames s.config
 
--- So many rounds of a system's configuration lead to this one, wherever fresh names begin, and no fewer end quiet.
-pub record AreRoundsTo (s : SystemParts) (rounds : ℕ) (c : Configuration) : Type 0 where
+-- So many rounds of a system's configuration lead to this one, wherever fresh names begin, and no fewer end quiet. They fire so
+-- many pairs, so many by each rule.
+pub record AreRoundsTo (s : SystemParts) (rounds : ℕ) (c : Configuration) (interactions : ℕ)
+    (by_rule : List ℕ) : Type 0 where
   pub net : SameButNext (iterate s.rules.rules rounds s.config) c
   pub needed : (n : ℕ) → n < rounds → ¬ IsQuiet s.rules.rules (iterate s.rules.rules n s.config)
+  pub all : interactions ≡ length (rules_in s.rules.rules rounds s.config)
+  pub counts : AreCounts (length s.rules.rules) (rules_in s.rules.rules rounds s.config) by_rule
 
--- what is reached where so many rounds are over, if a reduction goes by rounds
-abbrev pub IsAfterRounds : SystemParts → Option ℕ → Configuration → Type 0
-IsAfterRounds s None c = Unit {0}
-IsAfterRounds s (Some rounds) c = AreRoundsTo s rounds c
+-- what is reached by these interactions where so many rounds are over, if a reduction goes by rounds
+abbrev pub IsAfterRounds : SystemParts → Option ℕ → Configuration → (interactions : ℕ)
+    → (by_rule : List ℕ) → Type 0
+IsAfterRounds s None c interactions by_rule = Unit {0}
+IsAfterRounds s (Some rounds) c interactions by_rule = AreRoundsTo s rounds c interactions by_rule
 
 -- both go by rounds, the second no less far, or neither does
 abbrev pub AreAlike : (before after : Option ℕ) → Type 0
@@ -65,7 +70,7 @@ AreAlike (Some before) (Some after) = before ≤ after
 -- What is kept is a state of a reduction of this system: its text is read as a system with the same rules and symbols, and its
 -- words write a configuration that is reached from this system's by the interactions that it tells. Each of its agents has its arguments, and each
 -- of its equations two sides. If it isn't too large to be read, its names may stand in a text. If it has ended, no step is
--- possible. If the reduction goes by rounds, its net is that after as many as it tells.
+-- possible. If the reduction goes by rounds, its net is that after as many as it tells, and its interactions are theirs.
 pub record IsStateOf (s : SystemParts) (k : Kept) : Type 0 where
   pub sound : IsSound s
   pub read : SystemParts
@@ -78,7 +83,8 @@ pub record IsStateOf (s : SystemParts) (k : Kept) : Type 0 where
   pub whole : IsWhole k.words
   pub equations : ℕ
   pub counted : length (forest k.words) ≡ k.terms + 2 * equations
-  pub rounds : IsAfterRounds s k.rounds (configuration_of k.words k.terms next)
+  pub rounds : IsAfterRounds s k.rounds (configuration_of k.words k.terms next) k.interactions
+      k.by_rule
 
 -- A state of a reduction is reached from another one of it, by so many more interactions as it tells, and in more time. It
 -- has the same text.
@@ -130,21 +136,28 @@ pub record IsAnswer (s : SystemParts) (bounds : Bounds) (end : End) (k : Kept) :
   pub written : configuration_of k.words k.terms (MAX_NAME + 1) ≡ renumbered answer
 
 -- What a run by rounds ends with, at most so many in all: as many were made as are told, no fewer end quiet, and where it has
--- ended as one was over, this is the net after them.
+-- ended as one was over, this is the net after them. So many interactions are those of these rounds, and some since.
 pub record IsAnswerByRounds (s : SystemParts) (most rounds : ℕ) (end : End) (answer : Configuration)
-    : Type 0 where
+    (interactions : ℕ) (by_rule : List ℕ) : Type 0 where
   pub net : (end ≡ Quiet) ⊎ (end ≡ Steps) → OneNet answer (iterate s.rules.rules rounds s.config)
   pub needed : (n : ℕ) → n < rounds → ¬ IsQuiet s.rules.rules (iterate s.rules.rules n s.config)
   pub all : end ≡ Steps → most ≤ rounds
+  pub fired : AreOfRounds s.rules.rules s.config rounds end interactions by_rule
 
 -- the bytes of a state of the reduction of this system
 abbrev pub IsFormOf : SystemParts → List ℕ → Type 0
 IsFormOf s bytes = (k : Kept) × IsKept k × IsStateOf s k × (bytes ≡ state_bytes k)
 
--- the same, with no fewer interactions than these
-abbrev pub IsFormFrom : SystemParts → (least : ℕ) → List ℕ → Type 0
-IsFormFrom s least bytes =
-    (k : Kept) × IsKept k × IsStateOf s k × (least ≤ k.interactions) × (bytes ≡ state_bytes k)
+-- A state goes no less far than this one: it has no fewer interactions, and no fewer rounds if it goes by rounds. Both do, or
+-- neither.
+pub record IsNoLess (from k : Kept) : Type 0 where
+  pub interactions : from.interactions ≤ k.interactions
+  pub alike : AreAlike from.rounds k.rounds
+
+-- the bytes of one that goes no less far than this
+abbrev pub IsFormFrom : SystemParts → (from : Kept) → List ℕ → Type 0
+IsFormFrom s from bytes =
+    (k : Kept) × IsKept k × IsStateOf s k × IsNoLess from k × (bytes ≡ state_bytes k)
 
 -- A state goes further than so many interactions, after which the reduction had ended or not: it has more of them, or as many
 -- and has ended where that hadn't.

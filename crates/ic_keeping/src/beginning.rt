@@ -15,7 +15,7 @@ ghost use Rattle.ic_state.specs.State.{IsKept, Kept, kept_by, state_bytes};
 ghost use Rattle.ic_state.specs.Words.{IsKeptWord};
 ghost use Rattle.ic_text.specs.SystemText.{ReadsSystemWithin};
 ghost use Rattle.ic_keeping.specs.Life.{AreEmpty, AreRead, HandsBack, HasFailed, HoldAState, IsOpened, IsRead, KeepModel, RefusesFiles, StopsABegin, StopsAnOpening};
-ghost use Rattle.ic_keeping.specs.Way.{IsBegun, IsFormOf, IsStateOf};
+ghost use Rattle.ic_keeping.specs.Way.{IsBegun, IsFormOf, IsNoLess, IsStateOf};
 
 use crate::fault::KeepingFault;
 use crate::systems::systems_are_sound;
@@ -182,9 +182,9 @@ pub fn resume<D: Disk>(
     ensures ready { IfOk result (λ found. is_broken found.0 ≡ false) }
 
     // Where a state of a reduction was kept, the answer is one of that reduction, unless a call fails or memory runs out.
-    ensures state { (s : SystemParts) (least : ℕ) → HoldAState D.Disk s least first second
-        → IfOk result (λ found. IsStateOf s (kept_by found.1) × (least ≤ found.1.interactions)) }
-    ensures refused { (s : SystemParts) (least : ℕ) → HoldAState D.Disk s least first second
+    ensures state { (s : SystemParts) (from : Kept) → HoldAState D.Disk s from first second
+        → IfOk result (λ found. IsStateOf s (kept_by found.1) × IsNoLess from (kept_by found.1)) }
+    ensures refused { (s : SystemParts) (from : Kept) → HoldAState D.Disk s from first second
         → IfErr result (λ fault. StopsAnOpening fault.cause) }
     ensures device { IfErr result (λ fault. fault.cause ≡ KeepingFault.Open OpenCause.Device
         → HasFailed D.Disk first second fault) }

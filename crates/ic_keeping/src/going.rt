@@ -232,7 +232,9 @@ fn is_broken(before: Option<u64>, after: Option<u64>) -> bool
 /// How many rounds are told of a run that ends so. Where a bound or a limit came before any pair had fired, it is none.
 fn rounds_told(end: End, interactions: u64, over: Option<u64>) -> Option<u64>
     ensures between { (end ≡ End.Quiet) ⊎ (end ≡ End.Steps) → result ≡ over }
-    ensures some { (n : ℕ) → over ≡ Some n → (m : ℕ) × (result ≡ Some m) × (m ≤ n) }
+    ensures any { over ≡ None → result ≡ None }
+    ensures some { (n : ℕ) → over ≡ Some n
+        → (result ≡ Some n) ⊎ ((result ≡ Some 0) × (interactions ≡ 0)) }
 {
     match (over, end) {
         (Some(_), End::Nodes | End::Limit | End::Memory) if interactions == 0 => Some(0),
@@ -431,8 +433,9 @@ fn end_of(
     ensures unstuck { IfOk result (λ ended. ended.end ≢ End.Quiet → IsNone ended.stuck) }
     ensures between { (run.end ≡ End.Quiet) ⊎ (run.end ≡ End.Steps)
         → IfOk result (λ ended. ended.rounds ≡ run.rounds) }
-    ensures rounds { (n : ℕ) → run.rounds ≡ Some n
-        → IfOk result (λ ended. (m : ℕ) × (ended.rounds ≡ Some m) × (m ≤ n)) }
+    ensures any { run.rounds ≡ None → IfOk result (λ ended. ended.rounds ≡ None) }
+    ensures rounds { (n : ℕ) → run.rounds ≡ Some n → IfOk result (λ ended.
+        (ended.rounds ≡ Some n) ⊎ ((ended.rounds ≡ Some 0) × (state.interactions ≡ 0))) }
     ensures refused { IfErr result (λ fault. fault ≡ KeepingFault.Memory) }
 {
     let symbols = rules.symbols();
@@ -555,6 +558,7 @@ impl<T: Threads + Sync, C: Clock + Sync, V: Watch> Run<'_, T, C, V> {
         ic_naming::laws::renamed_words_write_renamed_terms();
         ic_naming::laws::renumbered_words_write_the_renumbered_configuration();
         ic_reaching::laws::where_names_begin_is_no_matter();
+        ic_reaching::laws::where_names_begin_is_all_that_differs();
         ic_reaching::laws::one_net_is_an_equivalence();
         ic_generations::laws::where_names_begin_is_no_matter_to_rounds();
         ic_round::laws::chains_are_steps();

@@ -1,6 +1,6 @@
 //! Laws of reductions that are kept.
 
-ghost use Rattle.std.specs.Prelude.{◌≡◌, ◌≢◌, ◌⊎◌, ◌+◌, ◌*◌, ◌-◌, ◌^◌, ◌<◌, ◌≤◌, List, [], ℕ, true, false, None, Some, Ok, Err, IsNone, IsTrue, length, max, slice_index_or, if◌then◌else◌};
+ghost use Rattle.std.specs.Prelude.{◌≡◌, ◌≢◌, ◌⊎◌, ◌+◌, ◌*◌, ◌-◌, ◌^◌, ◌<◌, ◌≤◌, List, [], ◌++◌, ℕ, true, false, None, Some, Ok, Err, IsNone, IsTrue, length, max, slice_index_or, if◌then◌else◌};
 ghost use Rattle.std.specs.Arc.{arc_value};
 ghost use Rattle.std.specs.Option.{option_map};
 ghost use Rattle.ic_disk.specs.Images.{Within};
@@ -28,7 +28,7 @@ ghost use Rattle.ic_in_place.specs.declared.running.End.{End};
 ghost use Rattle.ic_in_place.specs.declared.running.End.TheVariants.{Limit, Nodes, Quiet, Steps};
 ghost use Rattle.ic_in_place.specs.declared.stream.Asked.{Asked};
 ghost use Rattle.ic_in_place.specs.Reductions.{is_written, line_reached};
-ghost use Rattle.ic_in_place.specs.Counting.{AreCounts};
+ghost use Rattle.ic_in_place.specs.Counting.{AreCounts, rules_in};
 ghost use Rattle.ic_in_place.specs.Reducing.{CanInteract, IsPutTogether};
 ghost use Rattle.ic_kept.specs.Course.{HoldOne, HoldOneOf, LeftOnWay};
 ghost use Rattle.ic_kept.specs.Held.{Hold};
@@ -45,7 +45,7 @@ ghost use Rattle.ic_text.specs.declared.limits.TheConstants.{MAX_NAME};
 ghost use Rattle.ic_keeping.specs.declared.fault.KeepingFault.TheVariants as keeping;
 ghost use Rattle.ic_keeping.specs.declared.going.Ended.{Ended};
 ghost use Rattle.ic_keeping.specs.Life.{HasAsFar, HasEnded, HasLived, HasRun, HasState, HoldAState, IsFirstLife, IsFoundAgain, IsLeftBy, IsLife, IsTold, KeepFails, KeepModel, KeepsOn, StopsABegin, StopsARun, StopsAnOpening, StopsAt};
-ghost use Rattle.ic_keeping.specs.Way.{AreAlike, AreSums, ComesPastLimits, IsAnswer, IsAsFar, IsBegun, IsFormFrom, IsFormOf, IsKeptAfter, IsOnWay, IsReachedFrom, IsStateOf};
+ghost use Rattle.ic_keeping.specs.Way.{AreAlike, AreSums, ComesPastLimits, IsAnswer, IsAsFar, IsBegun, IsFormFrom, IsFormOf, IsKeptAfter, IsNoLess, IsOnWay, IsReachedFrom, IsStateOf};
 
 use crate::beginning::ResumeFault;
 use ic_disk::Disk;
@@ -63,7 +63,7 @@ pub fn a_stop_leaves_the_last_state_or_the_next<D: Disk>(keeper: &Keeper<D>)
         → IsStateOf s first → (way : KeepsOn D.Disk s first keeper.now end)
         → (kept coming one other : List ℕ)
         → LeftOnWay D.keeps D.image D.clock D.left way kept coming one other
-        → IsFormFrom s first.interactions kept
+        → IsFormFrom s first kept
         × ((coming ≡ kept) ⊎ IsKeptAfter s kept coming) }
 {
     let _ = keeper;
@@ -83,7 +83,7 @@ pub fn any_lives_leave_a_state_of_the_reduction<D: Disk>(first: &D, second: &D)
         → IsStateOf s begun
         → Lives D.keeps D.content D.image D.clock D.left (IsKeptAfter s) (state_bytes begun)
         kept coming first.now second.now
-        → IsFormFrom s begun.interactions kept
+        → IsFormFrom s begun kept
         × ((coming ≡ kept) ⊎ IsKeptAfter s kept coming) }
     ensures opened { (s : SystemParts) (begun found : Kept) (kept coming : List ℕ) → IsKept begun
         → IsStateOf s begun → IsKept found
@@ -130,21 +130,21 @@ pub fn lives_go_on<D: Disk>(first: &D, second: &D)
 pub fn another_life_may_follow<D: Disk>(first: &D, second: &D)
     ensures holds { (s : SystemParts) (begun : Kept) (kept coming : List ℕ)
         → HasLived D.Disk s begun kept coming first.now second.now
-        → HoldAState D.Disk s begun.interactions first.now second.now }
+        → HoldAState D.Disk s begun first.now second.now }
     // So it may at once at the end of a life, also by a fault.
     ensures again { (s : SystemParts) (found : Kept) (k n : Keeper D)
         → IsLife D.Disk s found first.now second.now k n
-        → HoldAState D.Disk s found.interactions (newest_of n) (other_of n) }
-    ensures ended { (s : SystemParts) (bounds : Bounds) (most : ℕ) (asked : Asked) (least : ℕ)
-        (run : Ended) (n : Keeper D) → HasEnded D.Disk s bounds most asked least first.now second.now run n
-        → HoldAState D.Disk s least (newest_of n) (other_of n)
-        × (least ≤ run.state.interactions) }
+        → HoldAState D.Disk s found (newest_of n) (other_of n) }
+    ensures ended { (s : SystemParts) (bounds : Bounds) (most : ℕ) (asked : Asked) (from : Kept)
+        (run : Ended) (n : Keeper D) → HasEnded D.Disk s bounds most asked from first.now second.now run n
+        → HoldAState D.Disk s from (newest_of n) (other_of n)
+        × (from.interactions ≤ run.state.interactions) }
     ensures stopped { (s : SystemParts) (found : Kept) (k n : Keeper D) (fault : ResumeFault D)
         → IsLife D.Disk s found first.now second.now k n → StopsAt s found k n fault
-        → HoldAState D.Disk s found.interactions fault.first fault.second }
+        → HoldAState D.Disk s found fault.first fault.second }
     ensures stopped_first { (s : SystemParts) (begun : Kept) (n : Keeper D) (fault : ResumeFault D)
         → (life : IsFirstLife D.Disk s begun n) → StopsAt s begun life.keeper n fault
-        → HoldAState D.Disk s begun.interactions fault.first fault.second }
+        → HoldAState D.Disk s begun fault.first fault.second }
     // At its end a state is kept that goes as far.
     ensures kept { (s : SystemParts) (k : Kept) (n : Keeper D) → HasAsFar D.Disk s k n
         → (kept : Kept) × IsStateOf s kept × IsAsFar kept k × HasState D.Disk kept n }
@@ -174,10 +174,10 @@ pub fn a_first_life_is_one_of_them<D: Disk>(first: &D, second: &D)
         → (life : IsFirstLife D.Disk s begun n)
         → IsLeftBy D.Disk life.life last next first.now second.now
         → HasLived D.Disk s begun last next first.now second.now }
-    // At its end, also by a fault, its disks hold a state with no fewer interactions.
+    // At its end, also by a fault, its disks hold a state that goes no less far.
     ensures again { (s : SystemParts) (begun : Kept) (n : Keeper D)
         → IsFirstLife D.Disk s begun n
-        → HoldAState D.Disk s begun.interactions (newest_of n) (other_of n) }
+        → HoldAState D.Disk s begun (newest_of n) (other_of n) }
 {
     let _ = first;
     let _ = second;
@@ -199,11 +199,13 @@ pub fn what_a_kept_state_says()
         × (k.interactions ≡ 0) × (k.ended ≡ false) × (k.millis ≡ 0) }
     ensures ended { (s : SystemParts) (k : Kept) → IsStateOf s k → k.ended ≡ true
         → (next : ℕ) × IsQuiet s.rules.rules (configuration_of k.words k.terms next) }
-    // Of one by rounds as many rounds lead there as it tells, and no fewer end quiet.
+    // Of one by rounds as many rounds lead there as it tells, and no fewer end quiet. Its interactions are theirs.
     ensures rounds { (s : SystemParts) (k : Kept) (made : ℕ) → IsStateOf s k → k.rounds ≡ Some made
         → ((next : ℕ) × SameButNext (iterate s.rules.rules made s.config)
         (configuration_of k.words k.terms next))
-        × ((n : ℕ) → n < made → ¬ IsQuiet s.rules.rules (iterate s.rules.rules n s.config)) }
+        × ((n : ℕ) → n < made → ¬ IsQuiet s.rules.rules (iterate s.rules.rules n s.config))
+        × (k.interactions ≡ length (rules_in s.rules.rules made s.config))
+        × AreCounts (length s.rules.rules) (rules_in s.rules.rules made s.config) k.by_rule }
     // Each agent has its arguments, each equation two sides, and the names may stand in a text if there aren't too many words.
     ensures whole { (s : SystemParts) (k : Kept) → IsStateOf s k → IsWhole k.words }
     ensures counted { (s : SystemParts) (k : Kept) → IsStateOf s k
@@ -315,6 +317,10 @@ pub fn kept_states_go_on()
         ⊎ ((k.interactions ≡ next.interactions) × (k.ended ≡ false) × (next.ended ≡ true))) }
     ensures rounds { (s : SystemParts) (k next : Kept) → IsKept k → IsKept next
         → IsKeptAfter s (state_bytes k) (state_bytes next) → AreAlike k.rounds next.rounds }
+    // By rounds, where it has more interactions, more rounds are over.
+    ensures more_rounds { (s : SystemParts) (k next : Kept) (m n : ℕ) → IsKept k → IsKept next
+        → IsKeptAfter s (state_bytes k) (state_bytes next) → k.rounds ≡ Some m
+        → next.rounds ≡ Some n → k.interactions < next.interactions → m < n }
     ensures few { (s : SystemParts) (k next : Kept) → IsKept k → IsKept next
         → IsKeptAfter s (state_bytes k) (state_bytes next) → length next.words ≤ MAX_WIDE_NODES }
     ensures reached { (s : SystemParts) (k next : Kept) → IsReachedFrom s k next
@@ -325,10 +331,13 @@ pub fn kept_states_go_on()
         × (next.text ≡ k.text) × (k.millis ≤ next.millis) }
     ensures as_far { (kept k : Kept) → IsAsFar kept k → (kept.interactions ≡ k.interactions)
         × (kept.by_rule ≡ k.by_rule) × (k.ended ≡ true → kept.ended ≡ true) }
-    ensures of { (s : SystemParts) (least : ℕ) (one other : List ℕ)
-        → HoldOne (IsFormFrom s least) one other → HoldOne (IsFormOf s) one other }
+    ensures of { (s : SystemParts) (from : Kept) (one other : List ℕ)
+        → HoldOne (IsFormFrom s from) one other → HoldOne (IsFormOf s) one other }
     ensures from { (s : SystemParts) (one other : List ℕ)
-        → HoldOne (IsFormOf s) one other → HoldOne (IsFormFrom s 0) one other }
+        → HoldOne (IsFormOf s) one other → (k : Kept) × HoldOne (IsFormFrom s k) one other }
+    // A state that two files hold after any lives goes by rounds if the first one did, and by no fewer.
+    ensures no_less { (from k : Kept) → IsNoLess from k
+        → (from.interactions ≤ k.interactions) × AreAlike from.rounds k.rounds }
 {
     ic_state::laws::each_state_has_its_own_bytes();
 }
@@ -390,6 +399,23 @@ pub fn what_a_run_by_rounds_tells()
         → (run.end ≡ Quiet) ⊎ (run.end ≡ Steps) → (rounds : ℕ) × (run.rounds ≡ Some rounds)
         × (rounds ≤ max most made) × OneNet has.answer.answer (iterate s.rules.rules rounds s.config)
         × ((n : ℕ) → n < rounds → ¬ IsQuiet s.rules.rules (iterate s.rules.rules n s.config)) }
+    // The interactions are those of these rounds, of each rule too.
+    ensures fired { (s : SystemParts) (bounds : Bounds) (most : ℕ) (asked : Asked) (k : Kept)
+        (run : Ended) (made : ℕ) → HasRun s bounds most asked k run → k.rounds ≡ Some made
+        → (run.end ≡ Quiet) ⊎ (run.end ≡ Steps) → (rounds : ℕ) × (run.rounds ≡ Some rounds)
+        × (run.state.interactions ≡ length (rules_in s.rules.rules rounds s.config))
+        × AreCounts (length s.rules.rules) (rules_in s.rules.rules rounds s.config)
+        run.state.by_rule.items }
+    // Broken off within a round, they are those of these rounds, and of pairs since, no more than the net after them has equations.
+    ensures within { (s : SystemParts) (bounds : Bounds) (most : ℕ) (asked : Asked) (k : Kept)
+        (run : Ended) (made : ℕ) → HasRun s bounds most asked k run → k.rounds ≡ Some made
+        → (rounds : ℕ) × (run.rounds ≡ Some rounds) × (since : List ℕ)
+        × (run.state.interactions ≡ length (rules_in s.rules.rules rounds s.config ++ since))
+        × AreCounts (length s.rules.rules) (rules_in s.rules.rules rounds s.config ++ since)
+        run.state.by_rule.items
+        × (length since ≤ length (iterate s.rules.rules rounds s.config).equations) }
+    ensures any_order { (s : SystemParts) (bounds : Bounds) (most : ℕ) (asked : Asked) (k : Kept)
+        (run : Ended) → HasRun s bounds most asked k run → k.rounds ≡ None → run.rounds ≡ None }
     ensures steps { (s : SystemParts) (bounds : Bounds) (most : ℕ) (asked : Asked) (k : Kept)
         (run : Ended) (made : ℕ) → (has : HasRun s bounds most asked k run) → k.rounds ≡ Some made
         → run.end ≡ Steps → (rounds : ℕ) × (run.rounds ≡ Some rounds) × (most ≤ rounds)

@@ -25,13 +25,13 @@ impl<T: Threads + Sync, C: Clock + Sync, V: Watch> Run<'_, T, C, V> {
     pub fn live<D: Disk>(&self, first: D, second: D) -> Result<(Ended, Keeper<D>), ResumeFault<D>>
         // From two files that hold a state of the reduction of a system, as after any lives of it (`laws::lives_go_on`), it is
         // one more of them: it answers that system, and keeps a state that goes as far.
-        ensures ended { (s : SystemParts) (least : ℕ) → HoldAState D.Disk s least first second
+        ensures ended { (s : SystemParts) (from : Kept) → HoldAState D.Disk s from first second
             → IfOk result (λ lived. HasEnded D.Disk s self.now.bounds self.now.rounds
-            self.now.asked least first second lived.0 lived.1) }
+            self.now.asked from first second lived.0 lived.1) }
         ensures quiet { IfOk result (λ lived.
             (lived.0.state.ended ≡ true) ↔ (lived.0.end ≡ End.Quiet)) }
         // So it is where it stops by a fault, unless it has only read the two disks.
-        ensures stopped { (s : SystemParts) (least : ℕ) → HoldAState D.Disk s least first second
+        ensures stopped { (s : SystemParts) (from : Kept) → HoldAState D.Disk s from first second
             → IfErr result (λ fault. (AreRead D.Disk first second fault
             × StopsAnOpening fault.cause) ⊎ ((found : Kept) × (k n : Keeper D)
             × IsLife D.Disk s found first second k n × StopsAt s found k n fault)) }

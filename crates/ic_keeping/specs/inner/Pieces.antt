@@ -10,6 +10,7 @@ use Rattle.ic_flat.specs.Words.{forest, is_word_over, IsWhole}
 use Rattle.ic_in_place.specs.declared.running.Bounds.{Bounds}
 use Rattle.ic_in_place.specs.declared.running.End.TheVariants.{Quiet, Steps}
 use Rattle.ic_in_place.specs.declared.stream.Asked.{Asked}
+use Rattle.ic_in_place.specs.Counting.{AreOfRounds}
 use Rattle.ic_in_place.specs.Reducing.{IsPutTogether, IsReached, Writes}
 use Rattle.ic_in_place.specs.Rounds.{MakesRounds}
 use Rattle.ic_in_place.specs.declared.reducing.Reduced.{Reduced}
@@ -72,6 +73,7 @@ pub record IsPiece (ss : List Symbol) (bounds : Bounds) (old new : State) (piece
   pub written : IsWritten ss new.words.items new.terms
   pub printed : IsPrinted ss new piece.equations
   pub any : old.rounds ≡ None → new.rounds ≡ None
+  pub untold : old.rounds ≡ None → piece.rounds ≡ None
   pub more : (m n : ℕ) → old.rounds ≡ Some m → new.rounds ≡ Some n
       → (m ≤ n) × (piece.end ≡ Steps → m < n)
 
@@ -87,6 +89,8 @@ pub record IsMade (s : SystemParts) (bounds : Bounds) (most : ℕ) (rounds : Opt
   pub writes : Writes s.rules.symbols reduced.words.items reduced.terms reduced.equations answer
   pub by_rounds : (over : ℕ) → rounds ≡ Some over
       → MakesRounds s (most - over) made reduced.end answer
+  pub fired : (over : ℕ) → rounds ≡ Some over → AreOfRounds s.rules.rules s.config made
+      reduced.end reduced.interactions reduced.by_rule.items
 
 -- A piece by rounds, before which so many were over, has come to an answer: so many are over in all as it tells, and no fewer end quiet. Where it has ended as one
 -- was over, this is the net after them. If no more might be made, or some may be made still, that is known of its end.
@@ -99,6 +103,8 @@ pub record IsPieceByRounds (s : SystemParts) (most over : ℕ) (answer : Configu
       → OneNet answer (iterate s.rules.rules rounds s.config)
   pub needed : (n : ℕ) → n < rounds → ¬ IsQuiet s.rules.rules (iterate s.rules.rules n s.config)
   pub all : piece.end ≡ Steps → new.rounds ≡ None → most ≤ rounds
+  pub fired : AreOfRounds s.rules.rules s.config rounds piece.end new.interactions
+      new.by_rule.items
   pub same : (n : ℕ) → new.rounds ≡ Some n → n ≡ rounds
   pub between : over < most → (piece.end ≡ Quiet) ⊎ (piece.end ≡ Steps)
       → new.rounds ≡ Some rounds

@@ -1,5 +1,6 @@
 use Rattle.std.proofs.Common.{◌≡◌, ◌∙◌, ℕ, ◌+◌, ◌<◌, ◌≤◌, List, Bool, true, false, if◌then◌else◌, Option, None, Some, length, refl, sym, ap, subst, arith}
 use Rattle.std.proofs.lemmas.Result.{err_from_is_err_and}
+use Rattle.std.specs.Prelude.{slice_index_or}
 use Rattle.ic_term.specs.Configuration.{Configuration, configuration_names, one_above}
 use Rattle.ic_term.specs.Symbol.{is_over}
 use Rattle.ic_rules.specs.RuleSet.{Rules}
@@ -15,11 +16,15 @@ use Rattle.ic_keeping.proofs.WayLemmas.{begun_on_way, words_numbered}
 use Rattle.ic_keeping.proofs.beginning.begun.Goals as goal
 
 -- no round is over
-begun_rounds : ((c : Configuration) (next : ℕ) → SameButNext c (record c { next = next })) → (s : SystemParts) (there : Configuration) → there ≡ s.config → (b : Bool)
-    → IsAfterRounds s (if b then Some 0 else None) there
-begun_rounds next s there config true =
-    record { net = subst (λ (d : Configuration). SameButNext s.config d) (sym config) (next s.config s.config.next); needed = λ n low. absurd (omega (arith, low)) }
-begun_rounds next s there config false = tt
+begun_rounds : ((c : Configuration) (next : ℕ) → SameButNext c (record c { next = next })) → (s : SystemParts) (there : Configuration) → there ≡ s.config → (by : List ℕ) → length by ≡ length s.rules.rules
+    → ((i : ℕ) → slice_index_or by i 0 ≡ 0) → (b : Bool) → IsAfterRounds s (if b then Some 0 else None) there 0 by
+begun_rounds next s there config by long none true = record {
+  net = subst (λ (d : Configuration). SameButNext s.config d) (sym config) (next s.config s.config.next);
+  needed = λ n low. absurd (omega (arith, low));
+  all = refl;
+  counts = record { all = long; each = λ i below. none i };
+}
+begun_rounds next s there config by long none false = tt
 
 pub returns-clause-read : goal.returns-clause-read
 returns-clause-read c =
@@ -49,8 +54,9 @@ returns-clause-read c =
           whole = c.into_parts-words.ensures.flat.whole;
           equations = c.into_parts-words.result.2;
           counted = c.into_parts-words.ensures.flat.counted;
-          rounds = subst (λ (o : Option ℕ). IsAfterRounds s o (configuration_of words terms s.config.next)) (sym c.rounds_begun.ensures)
-              (begun_rounds c.where_names_begin_is_no_matter.ensures.next s (configuration_of words terms s.config.next) config c.args.by_rounds);
+          rounds = subst (λ (o : Option ℕ). IsAfterRounds s o (configuration_of words terms s.config.next) 0 by) (sym c.rounds_begun.ensures)
+              (begun_rounds c.where_names_begin_is_no_matter.ensures.next s (configuration_of words terms s.config.next) config by (c.in_ok-by_rule.ensures.long ∙ ap length rules)
+              c.in_ok-by_rule.ensures.none c.args.by_rounds);
         };
         config = config;
         none = refl;

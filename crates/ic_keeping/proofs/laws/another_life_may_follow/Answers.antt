@@ -22,20 +22,20 @@ returns-clause-again g c = λ s found k n life.
     life_holds g.D.Disk (λ d t file. g.met.D.Disk.image_is_left d t file) (λ d. g.met.D.Disk.content_is_image d) c.each_state_has_its_own_bytes.ensures s found c.args.first.now c.args.second.now k n life
 
 pub returns-clause-ended : goal.returns-clause-ended
-returns-clause-ended g c = λ s bounds most asked least run n end.
+returns-clause-ended g c = λ s bounds most asked from run n end.
     let holds = life_holds g.D.Disk (λ d t file. g.met.D.Disk.image_is_left d t file) (λ d. g.met.D.Disk.content_is_image d) c.each_state_has_its_own_bytes.ensures
     s end.found c.args.first.now c.args.second.now end.keeper n end.life in
-    (holds_less g.D.Disk s end.found.interactions least (newest_of n) (other_of n) end.no_less holds, omega (arith, end.no_less, end.on.later))
+    (holds_less g.D.Disk s end.found from (newest_of n) (other_of n) end.no_less holds, omega (arith, end.no_less.interactions, end.on.later))
 
 pub returns-clause-stopped : goal.returns-clause-stopped
 returns-clause-stopped g c = λ s found k n fault life stop.
-    holds_back g.D.Disk s found.interactions n fault stop.back
+    holds_back g.D.Disk s found n fault stop.back
     (life_holds g.D.Disk (λ d t file. g.met.D.Disk.image_is_left d t file) (λ d. g.met.D.Disk.content_is_image d) c.each_state_has_its_own_bytes.ensures
     s found c.args.first.now c.args.second.now k n life)
 
 pub returns-clause-stopped_first : goal.returns-clause-stopped_first
 returns-clause-stopped_first g c = λ s begun n fault first stop.
-    holds_back g.D.Disk s begun.interactions n fault stop.back
+    holds_back g.D.Disk s begun n fault stop.back
     (life_holds g.D.Disk (λ d t file. g.met.D.Disk.image_is_left d t file) (λ d. g.met.D.Disk.content_is_image d) c.each_state_has_its_own_bytes.ensures
     s begun first.first first.second first.keeper n first.life)
 

@@ -28,5 +28,5 @@ returns-clause-low c = λ s k is few. (is.next, is.way.fired, is.low few, is.way
 
 pub returns-clause-rounds : goal.returns-clause-rounds
 returns-clause-rounds c = λ s k made is same.
-    let rounds = rounds_there s (configuration_of k.words k.terms is.next) k.rounds made same is.rounds in
-    ((is.next, rounds.net), rounds.needed)
+    let rounds = rounds_there s (configuration_of k.words k.terms is.next) k.interactions k.by_rule k.rounds made same is.rounds in
+    ((is.next, rounds.net), rounds.needed, rounds.all, rounds.counts)

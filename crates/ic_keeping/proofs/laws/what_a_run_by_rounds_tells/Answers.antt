@@ -1,12 +1,34 @@
-use Rattle.std.proofs.Common.{inr, subst}
+use Rattle.std.proofs.Common.{◌∙◌, List, ℕ, ap, length, subst}
 use Rattle.ic_in_place.specs.declared.running.End.{End}
+use Rattle.ic_in_place.specs.Counting.{AreCounts}
 use Rattle.ic_keeping.specs.Way.{EndsWithin}
+use Rattle.ic_keeping.proofs.ByRounds.{none_since}
 use Rattle.ic_keeping.proofs.laws.what_a_run_by_rounds_tells.Goals as goal
 
 pub returns-clause-net : goal.returns-clause-net
 returns-clause-net c = λ s bounds most asked k run made has by either.
     let told = has.by_rounds made by in
     (told.0, told.1, told.2, told.3.net either, told.3.needed)
+
+pub returns-clause-fired : goal.returns-clause-fired
+returns-clause-fired c = λ s bounds most asked k run made has by either.
+    let told = has.by_rounds made by in
+    let fired = told.3.fired in
+    let none = none_since fired either in (
+      told.0,
+      told.1,
+      fired.all ∙ ap (λ (l : List ℕ). length l) none,
+      subst (λ (l : List ℕ). AreCounts (length s.rules.rules) l run.state.by_rule.items) none fired.counts,
+    )
+
+pub returns-clause-within : goal.returns-clause-within
+returns-clause-within c = λ s bounds most asked k run made has by.
+    let told = has.by_rounds made by in
+    let fired = told.3.fired in
+    (told.0, told.1, fired.since, fired.all, fired.counts, fired.few)
+
+pub returns-clause-any_order : goal.returns-clause-any_order
+returns-clause-any_order c = λ s bounds most asked k run has any. has.any_order any
 
 pub returns-clause-steps : goal.returns-clause-steps
 returns-clause-steps c = λ s bounds most asked k run made has by steps.

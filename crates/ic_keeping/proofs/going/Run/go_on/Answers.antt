@@ -33,9 +33,10 @@ end_here : (g : _) (c : In_ok-run g) (s : SystemParts) (told : Option ℕ) → I
     → (c.run_piece.new.state.rounds ≡ None → c.in_ok-run.run'.end ≡ Steps → c.loop-pieces.state.rounds ≡ None → c.args.self.now.bounds.steps ≤ c.run_piece.new.state.interactions)
     → ((n : ℕ) → c.run_piece.new.state.rounds ≡ Some n → c.in_ok-run.run'.end ≡ Steps → c.args.self.now.rounds ≤ n)
     → ((c.in_ok-run.run'.end ≡ Quiet) ⊎ (c.in_ok-run.run'.end ≡ Steps) → told ≡ c.in_ok-run.run'.rounds)
-    → ((n : ℕ) → c.in_ok-run.run'.rounds ≡ Some n → (m : ℕ) × (told ≡ Some m) × (m ≤ n))
+    → (c.in_ok-run.run'.rounds ≡ None → told ≡ None)
+    → ((n : ℕ) → c.in_ok-run.run'.rounds ≡ Some n → (told ≡ Some n) ⊎ ((told ≡ Some 0) × (c.run_piece.new.state.interactions ≡ 0)))
     → IsEndOf s c.args.self.now.bounds c.args.self.now.rounds (kept_by c.args.start.state) told c.in_ok-run.run'.end c.run_piece.new.state
-end_here g c s told is steps all between some =
+end_here g c s told is steps all between untold some =
     let first = kept_by c.args.start.state in
     let from = c.loop-pieces.invariant.from s is in
     let run = c.in_ok-run.ensures in
@@ -44,7 +45,7 @@ end_here g c s told is steps all between some =
     (λ any.
     let now = c.loop-pieces.invariant.any any in
     let answer = run.answer s c.args.self.now.bounds is.rules from.is now.0 (omega (arith, c.bounds_after-bounds.ensures.left)) (λ at_steps. steps (run.piece.any now.0) at_steps now.0) in
-    record { within = c.args.self.now.bounds; bounded = λ same. refl; answer = answer; onward = onward; by_rounds = λ made by. absurd (cc (sym any ∙ by)); between = λ made by. absurd (cc (sym any ∙ by)) })
+    record { within = c.args.self.now.bounds; bounded = λ same. refl; answer = answer; onward = onward; by_rounds = λ made by. absurd (cc (sym any ∙ by)); any_order = λ same. untold (run.piece.untold now.0); between = λ made by. absurd (cc (sym any ∙ by)) })
     (λ m by.
     let now = c.loop-pieces.invariant.rounds m by in
     let answer = run.by_rounds s now.0 is.rules from.is now.1 in
@@ -57,8 +58,9 @@ end_here g c s told is steps all between some =
       bounded = λ none. absurd (cc (sym by ∙ none));
       answer = answer.1;
       onward = onward;
-      by_rounds = λ made same. end_by_rounds s c.args.self.now.rounds (max c.args.self.now.rounds made) c.in_ok-run.run'.end answer.1.answer told c.in_ok-run.run'.rounds piece.rounds piece.told
-          (omega (arith, piece.within, c.loop-pieces.invariant.few s is made now.0 same now.1)) between some piece.net piece.needed reached;
+      by_rounds = λ made same. end_by_rounds s c.args.self.now.rounds (max c.args.self.now.rounds made) c.in_ok-run.run'.end answer.1.answer c.run_piece.new.state.interactions c.run_piece.new.state.by_rule.items told c.in_ok-run.run'.rounds
+          piece.rounds piece.told (omega (arith, piece.within, c.loop-pieces.invariant.few s is made now.0 same now.1)) between some piece.net piece.needed reached piece.fired;
+      any_order = λ none. absurd (cc (sym by ∙ none));
       between = λ made same low either.
           piece.between (c.loop-pieces.invariant.below made now.0 same now.1 low) either ∙ sym (between either ∙ piece.told);
     })
@@ -207,7 +209,7 @@ returns-then-ends_run-clause-answer g c s is =
     (end_here g at.In_ok-run s c.in_ok-ended.ended.rounds is
     (λ none at_steps before. c.ends_run.ensures.ended c.if-ends_run.true at_steps none)
     (λ n here at_steps. c.ends_run.ensures.all n c.if-ends_run.true at_steps here)
-    told.between told.rounds)
+    told.between told.any told.rounds)
 
 pub returns-then-is_broken-clause-answer : goal.returns-then-is_broken-clause-answer
 returns-then-is_broken-clause-answer g c s is =
@@ -219,7 +221,7 @@ returns-then-is_broken-clause-answer g c s is =
     (end_here g at.In_ok-run s c.in_ok-cut.cut.rounds is
     (λ none at_steps before. absurd (cc (sym before ∙ broken.1.1)))
     (λ n here at_steps. absurd (cc (sym here ∙ broken.0)))
-    told.between told.rounds)
+    told.between told.any told.rounds)
 
 -- it goes by rounds, and what it has reached is within one
 within_here : (g : _) (c : In_ok-run g) → (c.loop-pieces.state.rounds ≡ None → ⊥) → c.args.start.state.rounds ≡ None → ⊥

@@ -25,12 +25,12 @@ is_start g c s is = record {
 }
 
 pub returns-in-Ok-clause-ended : goal.returns-in-Ok-clause-ended
-returns-in-Ok-clause-ended g c s least hold =
+returns-in-Ok-clause-ended g c s from hold =
     let at = (goal.at.returns-in-Ok-clause-ended g c).In-Ok in
     let found = c.in_ok-keeper.ensures in
-    let is = found.state s least hold in
+    let is = found.state s from hold in
     IfOk-weaker c.live_on.result _ _
-    (λ lived ends. ends_life g.D.Disk s c.args.self.now.bounds c.args.self.now.rounds c.args.self.now.asked least c.args.first c.args.second (start_here g at) c.in_ok-keeper.keeper lived.0 lived.1
+    (λ lived ends. ends_life g.D.Disk s c.args.self.now.bounds c.args.self.now.rounds c.args.self.now.asked from c.args.first c.args.second (start_here g at) c.in_ok-keeper.keeper lived.0 lived.1
     (is_start g at s is.0) found.sound (found.found hold.model) is.1 ends)
     c.live_on.ensures.ended
 
@@ -38,12 +38,12 @@ pub returns-in-Ok-clause-quiet : goal.returns-in-Ok-clause-quiet
 returns-in-Ok-clause-quiet g c = IfOk-weaker c.live_on.result _ _ (λ lived ends. ends.on.ended) c.live_on.ensures.ended
 
 pub returns-in-Ok-clause-stopped : goal.returns-in-Ok-clause-stopped
-returns-in-Ok-clause-stopped g c s least hold =
+returns-in-Ok-clause-stopped g c s from hold =
     let at = (goal.at.returns-in-Ok-clause-stopped g c).In-Ok in
     let found = c.in_ok-keeper.ensures in
     IfErr-weaker c.live_on.result _ _
     (λ fault stops. inr (stops_life g.D.Disk s c.args.first c.args.second (start_here g at) c.in_ok-keeper.keeper fault
-    (is_start g at s (found.state s least hold).0) found.sound (found.found hold.model) stops))
+    (is_start g at s (found.state s from hold).0) found.sound (found.found hold.model) stops))
     c.live_on.ensures.stopped
 
 pub returns-in-Ok-clause-device : goal.returns-in-Ok-clause-device
@@ -94,8 +94,8 @@ read_here : (g : _) (c : After-handed_back g) → KeepModel g.D.Disk c.args.firs
 read_here g c model = as_read (IsRead g.D.Disk) c.args.first c.args.second c.in_ok-keeper.keeper c.in_ok-keeper.keeper c.handed_back.result c.handed_back.ensures.back refl (c.in_ok-keeper.ensures.found model).reads
 
 pub returns-in-Err-clause-stopped : goal.returns-in-Err-clause-stopped
-returns-in-Err-clause-stopped g c s least hold =
-    let is = (c.in_ok-keeper.ensures.state s least hold).0 in
+returns-in-Err-clause-stopped g c s from hold =
+    let is = (c.in_ok-keeper.ensures.state s from hold).0 in
     inl (read_here g (goal.at.returns-in-Err-clause-stopped g c).After-handed_back hold.model, inr (inr (c.handed_back.ensures.cause ∙ c.in-Err.ensures.refused s is)))
 
 pub returns-in-Err-clause-device : goal.returns-in-Err-clause-device
@@ -127,10 +127,10 @@ returns-in-Err-clause-none g c model none =
     (refl, (read_here g (goal.at.returns-in-Err-clause-none g c).After-handed_back model, subst (λ (x : KeepingFault). RefusesFiles x) (sym c.handed_back.ensures.cause) (inr c.in-Err.ensures.only)))
 
 pub returns-in_err-keeper-clause-stopped : goal.returns-in_err-keeper-clause-stopped
-returns-in_err-keeper-clause-stopped g c s least hold =
+returns-in_err-keeper-clause-stopped g c s from hold =
     let found = c.in_err-keeper.ensures in
     let e = err_from_is_err_and c.from_residual.result c.from_residual.ensures.1 in
-    rw (e.1, e.2) (inl (found.reads hold.model, found.refused s least hold))
+    rw (e.1, e.2) (inl (found.reads hold.model, found.refused s from hold))
 
 pub returns-in_err-keeper-clause-device : goal.returns-in_err-keeper-clause-device
 returns-in_err-keeper-clause-device g c =

@@ -20,12 +20,13 @@ use Rattle.ic_reaching.specs.OneNet.{OneNet}
 use Rattle.ic_round.specs.Rounds.{iterate}
 use Rattle.ic_rules.specs.System.{SystemParts}
 use Rattle.std.proofs.lemmas.Bool.{cases_lt}
+use Rattle.ic_in_place.specs.Counting.{AreOfRounds}
 use Rattle.ic_in_place.specs.Reducing.{EndsBy}
 use Rattle.ic_state.specs.State.{kept_by}
 use Rattle.ic_state.specs.Words.{IsKeptWord}
 use Rattle.ic_keeping.specs.inner.Pieces.{IsWritten}
 use Rattle.ic_keeping.specs.Way.{AreRoundsTo, IsAfterRounds, IsAnswer, IsStateOf}
-use Rattle.ic_keeping.proofs.ByRounds.{RoundLaws, after_rounds, all_needed, by_order, net_after, rounds_there, rounds_to}
+use Rattle.ic_keeping.proofs.ByRounds.{RoundLaws, after_rounds, all_fired, all_needed, by_order, net_after, rounds_there, rounds_to}
 use Rattle.ic_keeping.proofs.Refusing.{not_unsound, piece_without_memory}
 use Rattle.ic_keeping.proofs.LowNames.{TellingLaws, low_words}
 use Rattle.ic_keeping.proofs.Quiet.{QuietLaws}
@@ -70,6 +71,8 @@ round_here g c = record {
   over = λ rs n d set over. c.chains_are_steps.ensures.over rs d (iterate rs.rules n d) set over (c.rounds_are_steps.ensures.iterate rs.rules n d);
   names = λ rs n d set over named. c.chains_are_steps.ensures.names rs d (iterate rs.rules n d) set over named (c.rounds_are_steps.ensures.iterate rs.rules n d);
   rounds = c.where_names_begin_is_no_matter_to_rounds.ensures.rounds;
+  rules = c.where_names_begin_is_no_matter_to_rounds.ensures.rules;
+  equations = c.where_names_begin_is_all_that_differs.ensures.equations;
   next = c.where_names_begin_is_no_matter.ensures.next;
   other_way = c.where_names_begin_is_no_matter.ensures.other_way;
   through = c.where_names_begin_is_no_matter.ensures.through;
@@ -95,10 +98,27 @@ new_written_here g c =
     ∙ ap (λ (n : ℕ). configuration_of c.in_ok-reduced.reduced.words.items n (MAX_NAME + 1)) piece.terms
     ∙ c.in_ok-reduced.ensures.made.writes.written
 
+-- the interactions of all lives are those of all rounds, and of what fired since
+fired_here : (g : _) (c : In_ok-piece g) → In_ok-system g → (s : SystemParts) → arc_value c.args.rules.now ≡ s.rules → (is : IsStateOf s (kept_by c.args.state.now)) → (m : ℕ) → c.args.state.now.rounds ≡ Some m
+    → AreOfRounds s.rules.rules s.config (m + c.in_ok-reduced.made) c.in_ok-reduced.reduced.end c.take_in.new.state.interactions c.take_in.new.state.by_rule.items
+fired_here g c at s rules is m before =
+    let old = c.args.state.now in
+    let t = c.in_ok-system.system in
+    let reduced = c.in_ok-reduced.reduced in
+    let made = c.in_ok-reduced.ensures.made in
+    let words : c.replace-words.result.items ≡ old.words.items = ap (λ ws. ws.items) c.replace-words.ensures.value in
+    let interface = c.in_ok-system.ensures.interface ∙ ap (λ (ws : List Word). (configuration_of ws old.terms 0).interface) words in
+    let equations = c.in_ok-system.ensures.equations ∙ ap (λ (ws : List Word). (configuration_of ws old.terms 0).equations) words in
+    let piece = c.in_ok-piece.ensures in
+    let there : Configuration = configuration_of old.words.items old.terms is.next in
+    all_fired (round_here g at) (quiet_here g at) s t is.sound (c.in_ok-system.ensures.rules ∙ rules) there interface equations c.in_ok-system.ensures.names c.systems_are_sound.ensures.sound.over
+    m old.interactions old.by_rule.items (rounds_there s there old.interactions old.by_rule.items old.rounds m before is.rounds) (c.args.self.now.rounds - m) c.in_ok-reduced.made reduced.end made.answer
+    (made.by_rounds m before) reduced.interactions reduced.by_rule.items (made.fired m before) c.take_in.new.state.interactions c.take_in.new.state.by_rule.items piece.interactions piece.by_rule
+
 -- what was reached is the net after them
 rounds_here : (g : _) (c : In_ok-piece g) → In_ok-system g → (s : SystemParts) → arc_value c.args.rules.now ≡ s.rules → (is : IsStateOf s (kept_by c.args.state.now))
     → IsAfterRounds s c.take_in.new.state.rounds (configuration_of c.take_in.new.state.words.items c.take_in.new.state.terms
-    (one_above (configuration_names (configuration_of c.take_in.new.state.words.items c.take_in.new.state.terms 0))))
+    (one_above (configuration_names (configuration_of c.take_in.new.state.words.items c.take_in.new.state.terms 0)))) c.take_in.new.state.interactions c.take_in.new.state.by_rule.items
 rounds_here g c at s rules is =
     let old = c.args.state.now in
     let new = c.take_in.new.state in
@@ -114,16 +134,16 @@ rounds_here g c at s rules is =
     let reached : Configuration = configuration_of new.words.items new.terms next in
     let same = c.in_ok-system.ensures.rules ∙ rules in
     let written = new_written_here g c in
-    after_rounds s reached new.rounds (λ n after. by_order old.rounds
+    after_rounds s reached new.interactions new.by_rule.items new.rounds (λ n after. by_order old.rounds
     (λ any. absurd (let none : Some n ≡ None = sym after ∙ (piece.between ∙ c.rounds_between-state.ensures.any any) in cc (none)))
     (λ m before.
     let only = c.rounds_between-state.ensures.only n (sym piece.between ∙ after) in
     let low = free_low (naming_here g at) (laws_here g at) s t is.sound there is.way.fired is.way.reached same interface equations c.in_ok-system.ensures.names
     made.within made.answer reduced.end reduced.interactions reduced.by_rule.items made.reached c.in_ok-system.ensures.low new.words.items new.terms written in
     let to = rounds_to (round_here g at) (quiet_here g at) s t is.sound same there interface equations c.in_ok-system.ensures.names c.systems_are_sound.ensures.sound.over
-    m (rounds_there s there old.rounds m before is.rounds) (c.args.self.now.rounds - m) c.in_ok-reduced.made reduced.end made.answer (made.by_rounds m before)
-    only.1 (omega (arith, only.2 m before)) low new.words.items new.terms next written in
-    subst (λ (k : ℕ). AreRoundsTo s k reached) (sym (sum_here g c m n before after)) to))
+    m old.interactions old.by_rule.items (rounds_there s there old.interactions old.by_rule.items old.rounds m before is.rounds) (c.args.self.now.rounds - m) c.in_ok-reduced.made reduced.end made.answer
+    (made.by_rounds m before) only.1 (omega (arith, only.2 m before)) low new.words.items new.terms next written new.interactions new.by_rule.items (fired_here g c at s rules is m before) in
+    subst (λ (k : ℕ). AreRoundsTo s k reached new.interactions new.by_rule.items) (sym (sum_here g c m n before after)) to))
 
 -- where no more might be made, all are
 all_made : (g : _) (c : In_ok-piece g) (m : ℕ) → c.args.state.now.rounds ≡ Some m → c.in_ok-reduced.reduced.end ≡ Steps → c.take_in.new.state.rounds ≡ None
@@ -195,6 +215,7 @@ returns-clause-piece g c =
           let ended = subst (λ (e : End). EndsBy t.rules.rules made.within made.answer reduced.interactions e) (sym piece.end ∙ same) r.ended in
           omega (arith, ended.0, piece.interactions, ap (λ (b : Bounds). b.steps) (made.bounded any));
       any = λ any. piece.between ∙ c.rounds_between-state.ensures.any any;
+      untold = λ any. piece.rounds ∙ c.rounds_over-over.ensures.any any;
       more = λ m n before after.
           let only = c.rounds_between-state.ensures.only n (sym piece.between ∙ after) in
           let more = made.by_rounds m before in
@@ -305,11 +326,11 @@ returns-clause-by_rounds g c s over rules is before =
     piece.text piece.words piece.terms piece.interactions piece.by_rule within (omega arith) (λ at_steps. omega (arith, piece.interactions, (ended at_steps).0))
     c.in_ok-piece.piece.end (sym piece.end) in
     let more = made.by_rounds over before in
-    let after = rounds_there s there old.rounds over before is.rounds in
+    let after = rounds_there s there old.interactions old.by_rule.items old.rounds over before is.rounds in
     let net = net_after (round_here g at) (quiet_here g at) s t is.sound same there interface equations c.in_ok-system.ensures.names c.systems_are_sound.ensures.sound.over
-    over after (c.args.self.now.rounds - over) c.in_ok-reduced.made reduced.end made.answer more in
+    over old.interactions old.by_rule.items after (c.args.self.now.rounds - over) c.in_ok-reduced.made reduced.end made.answer more in
     let needed = all_needed (round_here g at) (quiet_here g at) s t is.sound same there interface equations c.in_ok-system.ensures.names c.systems_are_sound.ensures.sound.over
-    over after (c.args.self.now.rounds - over) c.in_ok-reduced.made reduced.end made.answer more in (
+    over old.interactions old.by_rule.items after (c.args.self.now.rounds - over) c.in_ok-reduced.made reduced.end made.answer more in (
       within,
       answer.0,
       record {
@@ -319,6 +340,7 @@ returns-clause-by_rounds g c s over rules is before =
         net = λ either. subst (λ (d : Configuration). OneNet d (iterate s.rules.rules (over + c.in_ok-reduced.made) s.config)) (sym answer.1)
             (net (subst (λ (e : End). (e ≡ Quiet) ⊎ (e ≡ Steps)) piece.end either));
         needed = needed;
+        fired = subst (λ (e : End). AreOfRounds s.rules.rules s.config (over + c.in_ok-reduced.made) e new.interactions new.by_rule.items) (sym piece.end) (fired_here g last at s rules is over before);
         all = λ steps none. all_made g last over before (sym piece.end ∙ steps) none;
         same = λ n is_now. sum_here g last over n before is_now;
         between = λ few either. last.in_ok-piece.ensures.between ∙ (last.rounds_between-state.ensures.between over before few
