@@ -16,8 +16,40 @@ use crate::queue::Queue;
 use crate::stamps::Stamps;
 use ic_arena::{IDLE, NAME, Names, Word};
 
-/// Links equations whose sides are in registers.
+/// Links equations whose sides are in registers. They are stamped if equations are to be.
 pub(crate) fn link_each(
+    names: &mut Names,
+    pending: &mut Queue,
+    stamps: &mut Stamps,
+    links: &[Link],
+    registers: &[Word],
+)
+    requires links { AreLinks links.now registers.now names.old.entries }
+    requires room { length pending.old.items + length links.now ≤ pending.old.capacity }
+    ensures steps { (p : Plans) (rest : List Piece) → Steps p []
+        (map (linked registers.now) links.now
+        ++ (names_pieces 0 names.old.entries ++ (map equated_of pending.old.items ++ rest)))
+        (names_pieces 0 names.new.entries ++ (map equated_of pending.new.items ++ rest)) }
+    ensures pushed { Pushed pending.old.items pending.new.items }
+    ensures bare { (p : Plans) (rest : List Piece) (more : List Equation)
+        → pending.new.items ≡ pending.old.items ++ more → Steps p []
+        (map (linked registers.now) links.now ++ (names_pieces 0 names.old.entries ++ rest))
+        (names_pieces 0 names.new.entries ++ (map equated_of more ++ rest)) }
+    ensures head { HaveHead links.now registers.now pending.old.items pending.new.items }
+    ensures len { length pending.new.items ≤ length pending.old.items + length links.now }
+    ensures capacity { pending.new.capacity ≡ pending.old.capacity }
+    ensures names { length names.new.entries ≡ length names.old.entries }
+    ensures memory { names.new.capacity ≡ names.old.capacity }
+{
+    if stamps.is_on() {
+        link_all::<true>(names, pending, stamps, links, registers);
+    } else {
+        link_all::<false>(names, pending, stamps, links, registers);
+    }
+}
+
+/// The same where it is known whether they are stamped.
+pub(crate) fn link_all<const STAMPED: bool>(
     names: &mut Names,
     pending: &mut Queue,
     stamps: &mut Stamps,
@@ -46,14 +78,19 @@ pub(crate) fn link_each(
             left: registers[each.left as usize],
             right: registers[each.right as usize],
         };
-        stamps.stamp(names, pending, equation);
-        link(names, pending, equation);
+        link::<STAMPED>(names, pending, stamps, equation);
     }
 }
 
 /// Links an equation: if a word waits for a side that is a name, it takes the place of that, as long as one does. Then one
-/// side waits for the other, if that is a name. Two sides that are no names are pending.
-pub(crate) fn link(names: &mut Names, pending: &mut Queue, equation: Equation)
+/// side waits for the other, if that is a name. Two sides that are no names are pending. The greatest stamp on the way is that of
+/// what waits, or is pending.
+pub(crate) fn link<const STAMPED: bool>(
+    names: &mut Names,
+    pending: &mut Queue,
+    stamps: &mut Stamps,
+    equation: Equation,
+)
     requires named { AreNamed equation.left equation.right names.old.entries }
     requires room { length pending.old.items < pending.old.capacity }
     ensures steps { (p : Plans) (rest : List Piece) → Steps p []
@@ -73,13 +110,16 @@ pub(crate) fn link(names: &mut Names, pending: &mut Queue, equation: Equation)
 {
     let mut left = equation.left;
     let mut right = equation.right;
+    let mut stamp = stamps.made();
     'follow: loop {
         if let Some(waiting) = taken(names, left) {
+            stamp = stamps.joined::<STAMPED>(stamp, left.index);
             left = waiting;
         } else if let Some(waiting) = taken(names, right) {
+            stamp = stamps.joined::<STAMPED>(stamp, right.index);
             right = waiting;
         } else {
-            settle(names, pending, Equation { left, right });
+            settle::<STAMPED>(names, pending, stamps, Equation { left, right }, stamp);
             return;
         }
     }
@@ -105,8 +145,14 @@ fn taken(names: &mut Names, word: Word) -> Option<Word>
     Some(waiting)
 }
 
-/// Lets one side of an equation wait for the other, if that is a name. Nothing waits for either of them.
-fn settle(names: &mut Names, pending: &mut Queue, equation: Equation)
+/// Lets one side of an equation of this stamp wait for the other, if that is a name. Nothing waits for either of them.
+fn settle<const STAMPED: bool>(
+    names: &mut Names,
+    pending: &mut Queue,
+    stamps: &mut Stamps,
+    equation: Equation,
+    stamp: u32,
+)
     requires named { AreNamed equation.left equation.right names.old.entries }
     requires left { IsEnd equation.left names.old.entries }
     requires right { IsEnd equation.right names.old.entries }
@@ -127,10 +173,13 @@ fn settle(names: &mut Names, pending: &mut Queue, equation: Equation)
     ensures memory { names.new.capacity ≡ names.old.capacity }
 {
     if equation.left.tag == NAME {
+        stamps.mark::<STAMPED>(equation.left.index, stamp);
         names.put(equation.left.index, equation.right);
     } else if equation.right.tag == NAME {
+        stamps.mark::<STAMPED>(equation.right.index, stamp);
         names.put(equation.right.index, equation.left);
     } else {
+        stamps.push::<STAMPED>(pending.len(), stamp);
         pending.push_reserved(equation);
     }
 }

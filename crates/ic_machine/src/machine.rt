@@ -123,8 +123,43 @@ impl Machine {
             → self.new.interactions < self.old.interactions + steps }
         ensures broken { OnErr result (self.new.pending ≢ []) }
     {
+        if self.is_stamped() {
+            self.run_all::<true>(program, steps)
+        } else {
+            self.run_all::<false>(program, steps)
+        }
+    }
+
+    /// Whether it knows in which rounds the pairs would fire that it runs.
+    fn is_stamped(&self) -> bool {
+        self.tables.stamps.is_on()
+    }
+
+    /// The same where it is known whether pairs are stamped.
+    fn run_all<const STAMPED: bool>(
+        &mut self,
+        program: &Program,
+        steps: u64,
+    ) -> Result<Ended, MachineFault>
+        requires arities { self.old.arities ≡ program.now.arities }
+        requires few { self.old.interactions + steps < 2 ^ 64 }
+        ensures ran { Ran program.now self.old self.new }
+        ensures at_most { self.new.interactions ≤ self.old.interactions + steps }
+        ensures quiet { result ≡ Ok Ended.Quiet → self.new.pending ≡ [] }
+        ensures all { result ≡ Ok Ended.Steps
+            → self.new.interactions ≡ self.old.interactions + steps }
+        ensures more { result ≡ Ok Ended.Steps → HasNext program.now self.new.pending }
+        ensures separate { IsSeparate self.new.arities self.new.interface (pieces self.new) }
+        ensures places { AllByRecursion IsAtPlace self.new.places }
+        ensures pairs { AllByRecursion IsPair self.new.pending }
+        ensures limit { result ≡ Err MachineFault.Limit
+            → (next : HasNext program.now self.new.pending) × IsFull next.active.plan self.new }
+        ensures early { result ≡ Err MachineFault.Limit
+            → self.new.interactions < self.old.interactions + steps }
+        ensures broken { OnErr result (self.new.pending ≢ []) }
+    {
         for step in 0..steps {
-            if !self.step(program)? {
+            if !self.step::<STAMPED>(program)? {
                 return Ok(Ended::Quiet);
             }
         }
@@ -136,7 +171,7 @@ impl Machine {
     }
 
     /// Fires the last pending pair that has a plan, if there is one. Those that come after it are set aside.
-    fn step(&mut self, program: &Program) -> Result<bool, MachineFault>
+    fn step<const STAMPED: bool>(&mut self, program: &Program) -> Result<bool, MachineFault>
         requires arities { self.old.arities ≡ program.now.arities }
         requires few { self.old.interactions + 1 < 2 ^ 64 }
         ensures ran { Ran program.now self.old self.new }
@@ -156,7 +191,8 @@ impl Machine {
         let Some((pair, number)) = found else {
             return Ok(false);
         };
-        self.tables.fire_last(pair, program.plan_at(number))?;
+        self.tables
+            .fire_last::<STAMPED>(pair, program.plan_at(number))?;
         self.interactions += 1;
         count(&mut self.counts, number);
         Ok(true)

@@ -75,7 +75,10 @@ impl Machine {
         self.tables.spare = 0;
         let rest = self.tables.pending.split_off(pairs)?;
         let given = replace(&mut self.tables.pending, rest);
-        self.tables.stamps.carry_pairs(pairs, &mut parcel.stamps);
+        let left = self.tables.pending.len();
+        self.tables
+            .stamps
+            .carry_pairs(pairs, left, &mut parcel.stamps);
         pack_each(&mut self.tables, given.as_slice(), borders, parcel)?;
         Ok(())
     }
@@ -183,7 +186,9 @@ fn give_tables(
     ensures size { HasMoreNames tables.old tables.new }
 {
     ship_each(tables, cuts, borders, parcel)?;
-    tables.stamps.carry_pairs(pending.len(), &mut parcel.stamps);
+    tables
+        .stamps
+        .carry_pairs(pending.len(), 0, &mut parcel.stamps);
     pack_each(tables, pending, borders, parcel)?;
     tables.stamps.carry_stuck(aside.len(), &mut parcel.stamps);
     pack_each(tables, aside, borders, parcel)?;

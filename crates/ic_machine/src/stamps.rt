@@ -4,15 +4,20 @@
 //! it makes has stamp s + 1. A word that waits for a name has the stamp of their equation. Where it comes up in another one, the
 //! greater stamp is that of both. No clause speaks of stamps: nothing but figures depends on them.
 
-use crate::equation::Equation;
 use crate::queue::Queue;
 use ic_arena::{IDLE, NAME, Names, Word};
-use std::alloc::Global;
+use std::alloc::{AllocError, Global};
 use std::marker::Model;
 use std::mem::replace;
 
 /// The stamp of the text's equations, but for those of two agents, which have stamp 0.
 const TEXT: u32 = 1;
+
+/// How many places more are taken where a list of stamps has become too short.
+const AHEAD: usize = 1_024;
+
+/// The last stamp.
+const LAST: usize = 0xffff_ffff;
 
 /// The stamps of what waits for names and of pending pairs, and how many pairs of each stamp have fired.
 #[derive(Drop)]
@@ -23,11 +28,9 @@ pub(crate) struct Stamps {
     is_lost: bool,
     /// The stamp of the equations that are linked now.
     made: u32,
-    /// The stamp of those among them whose sides are both agents.
-    joined: u32,
     /// Of each name the stamp of what waits for it. Those that have none here have that of the text.
     names: Vec<u32>,
-    /// Of each pending pair its stamp. Those that were set aside since may have one after these.
+    /// Of each pending pair its stamp, at its place among them. What stands after these means nothing.
     pairs: Vec<u32>,
     /// How many pairs of each stamp have fired.
     fired: Vec<u64>,
@@ -39,21 +42,13 @@ impl Model for Stamps {
     ghost view = { λ _. tt };
 }
 
-/// A word, and the greatest stamp on the way to it.
-#[derive(Clone, Copy)]
-struct Followed {
-    word: Word,
-    stamp: u32,
-}
-
 impl Stamps {
     /// None so far, and none to come. Takes no memory.
     pub(crate) fn new(alloc: Global) -> Stamps {
         Stamps {
             is_on: false,
             is_lost: false,
-            made: TEXT,
-            joined: 0,
+            made: 0,
             names: Vec::new(alloc),
             pairs: Vec::new(alloc),
             fired: Vec::new(alloc),
@@ -65,132 +60,131 @@ impl Stamps {
         self.is_on = is_on;
     }
 
-    /// Stamps an equation that is linked next.
+    /// Whether equations are stamped.
     #[inline(always)]
-    pub(crate) fn stamp(&mut self, names: &Names, pending: &Queue, equation: Equation) {
-        if self.is_on {
-            self.stamp_sides(names, pending, equation);
-        }
+    pub(crate) fn is_on(&self) -> bool {
+        self.is_on
     }
 
-    /// As linking does, it goes on from each side as long as a word waits for it.
-    fn stamp_sides(&mut self, names: &Names, pending: &Queue, equation: Equation) {
-        let Equation { left, right } = equation;
-        if left.tag != NAME && right.tag != NAME {
-            self.push(pending.len(), self.joined);
-            return;
-        }
-        let left = self.follow(names, left, self.made);
-        let right = self.follow(names, right, left.stamp);
-        if left.word.tag == NAME {
-            self.mark(left.word.index, right.stamp);
-        } else if right.word.tag == NAME {
-            self.mark(right.word.index, right.stamp);
+    /// The stamp of an equation that is linked next, as it begins. Only where it is one of two agents it may be less than that of
+    /// the text.
+    #[inline(always)]
+    pub(crate) fn made(&self) -> u32 {
+        self.made
+    }
+
+    /// The stamp of an equation of this stamp, as the word that waits for a name takes the place of that.
+    #[inline(always)]
+    pub(crate) fn joined<const STAMPED: bool>(&self, stamp: u32, name: u32) -> u32 {
+        if STAMPED {
+            stamp.max(self.of_name(name))
         } else {
-            self.push(pending.len(), right.stamp);
+            stamp
         }
-    }
-
-    /// The last of the words that wait for one another from this one on. Those of a circle are each visited once.
-    fn follow(&self, names: &Names, from: Word, stamp: u32) -> Followed {
-        let mut end = Followed { word: from, stamp };
-        for _ in 0..names.len() {
-            let Some(word) = waiting_for(names, end.word) else {
-                return end;
-            };
-            let stamp = end.stamp.max(self.of_name(end.word.index));
-            end = Followed { word, stamp };
-            if word.tag == NAME && word.index == from.index {
-                return end;
-            }
-        }
-        end
     }
 
     /// The stamp of what waits for a name.
+    #[inline(always)]
     fn of_name(&self, name: u32) -> u32 {
-        match self.names.get(name as usize) {
-            Some(stamp) => *stamp,
-            None => TEXT,
+        let place = name as usize;
+        if place < self.names.len() {
+            self.names[place]
+        } else {
+            TEXT
         }
     }
 
     /// Stamps what waits for a name from now on.
-    pub(crate) fn mark(&mut self, name: u32, stamp: u32) {
-        let place = name as usize;
-        if let Some(old) = self.names.get_mut(place) {
-            *old = stamp;
-            return;
-        }
-        for _ in self.names.len()..place {
-            if self.names.push(TEXT).is_err() {
-                self.lose();
-                return;
+    #[inline(always)]
+    pub(crate) fn mark<const STAMPED: bool>(&mut self, name: u32, stamp: u32) {
+        if STAMPED {
+            let place = name as usize;
+            let stamp = stamp.max(TEXT);
+            if place < self.names.len() {
+                self.names[place] = stamp;
+            } else {
+                self.mark_new(place, stamp);
             }
         }
-        if self.names.push(stamp).is_err() {
+    }
+
+    /// Stamps what waits for a name that has no place here yet.
+    #[cold]
+    #[inline(never)]
+    fn mark_new(&mut self, place: usize, stamp: u32) {
+        if self.is_on && put_new(&mut self.names, place, stamp, TEXT).is_err() {
             self.lose();
         }
     }
 
     /// Stamps a pair that comes after so many that are pending.
-    fn push(&mut self, pending: usize, stamp: u32) {
-        self.pairs.truncate(pending);
-        if self.pairs.push(stamp).is_err() {
+    #[inline(always)]
+    pub(crate) fn push<const STAMPED: bool>(&mut self, pending: usize, stamp: u32) {
+        if STAMPED {
+            if pending < self.pairs.len() {
+                self.pairs[pending] = stamp;
+            } else {
+                self.push_new(pending, stamp);
+            }
+        }
+    }
+
+    /// Stamps a pair that has no place here yet.
+    #[cold]
+    #[inline(never)]
+    fn push_new(&mut self, place: usize, stamp: u32) {
+        if self.is_on && put_new(&mut self.pairs, place, stamp, 0).is_err() {
             self.lose();
         }
     }
 
     /// Counts the last pending pair, which fires next.
     #[inline(always)]
-    pub(crate) fn count_last(&mut self, pending: &Queue) {
-        if self.is_on {
-            self.count_after(pending.len());
+    pub(crate) fn count_last<const STAMPED: bool>(&mut self, pending: &Queue) {
+        if STAMPED {
+            self.count_at(pending.len().saturating_sub(1));
         }
     }
 
-    /// Counts the last one of so many pairs. Where it has no stamp, they are lost.
-    fn count_after(&mut self, pending: usize) {
-        self.pairs.truncate(pending);
-        if self.pairs.len() < pending {
+    /// Counts the pair at this place. Where it has no stamp, they are lost.
+    #[inline(always)]
+    fn count_at(&mut self, place: usize) {
+        if place < self.pairs.len() {
+            let stamp = self.pairs[place];
+            self.count_stamp(stamp);
+        } else {
             self.lose();
-            return;
-        }
-        match self.pairs.pop() {
-            Some(stamp) => self.count_stamp(stamp),
-            None => self.lose(),
         }
     }
 
     /// Counts a pair of this stamp. What it makes is linked next.
+    #[inline(always)]
     fn count_stamp(&mut self, stamp: u32) {
         self.add(stamp as usize, 1);
-        match stamp.checked_add(1) {
-            Some(next) => self.link_at(next),
-            None => self.lose(),
-        }
-    }
-
-    /// Links with this stamp from now on.
-    fn link_at(&mut self, stamp: u32) {
-        self.made = stamp;
-        self.joined = stamp;
+        self.made = stamp.saturating_add(1);
     }
 
     /// Counts so many pairs more of a stamp.
+    #[inline(always)]
     fn add(&mut self, stamp: usize, count: u64) {
-        if let Some(fired) = self.fired.get_mut(stamp) {
-            *fired = fired.saturating_add(count);
+        if stamp < self.fired.len() {
+            self.fired[stamp] = self.fired[stamp].saturating_add(count);
+        } else {
+            self.add_new(stamp, count);
+        }
+    }
+
+    /// Counts so many pairs of a stamp that has no place here yet. The last stamp has none, since no other comes after it.
+    #[cold]
+    #[inline(never)]
+    fn add_new(&mut self, stamp: usize, count: u64) {
+        let places = stamp.saturating_add(AHEAD).min(LAST);
+        if stamp >= LAST || self.fired.resize(places, 0).is_err() {
+            self.lose();
             return;
         }
-        for _ in self.fired.len()..stamp {
-            if self.fired.push(0).is_err() {
-                self.lose();
-                return;
-            }
-        }
-        if self.fired.push(count).is_err() {
-            self.lose();
+        if let Some(fired) = self.fired.get_mut(stamp) {
+            *fired = count;
         }
     }
 
@@ -200,16 +194,18 @@ impl Stamps {
             self.lose();
         }
         for (stamp, count) in other.fired.iter().enumerate() {
-            self.add(stamp, *count);
+            if *count > 0 {
+                self.add(stamp, *count);
+            }
         }
     }
 
-    /// Gives what waits for a name, as that is put through, the greatest stamp on the way.
+    /// Gives what waits for a name, where that waits for another one, the greater stamp of both, as the other is put through.
     #[inline(always)]
-    pub(crate) fn join(&mut self, names: &Names, name: u32) {
+    pub(crate) fn put_through(&mut self, name: u32, other: u32) {
         if self.is_on {
-            let end = self.follow(names, Word::name(name), 0);
-            self.mark(name, end.stamp);
+            let stamp = self.of_name(name).max(self.of_name(other));
+            self.mark::<true>(name, stamp);
         }
     }
 
@@ -225,14 +221,18 @@ impl Stamps {
             return None;
         }
         self.is_on = false;
-        Some(replace(&mut self.fired, Vec::new(alloc)))
+        let mut fired = replace(&mut self.fired, Vec::new(alloc));
+        let rounds = rounds_of(&fired);
+        fired.truncate(rounds);
+        Some(fired)
     }
 
-    /// Puts the stamps of so many pending pairs, the first ones, into a parcel.
-    pub(crate) fn carry_pairs(&mut self, pairs: usize, carried: &mut Carried) {
+    /// Puts the stamps of so many pending pairs, the first ones, into a parcel. So many others are left.
+    pub(crate) fn carry_pairs(&mut self, pairs: usize, left: usize, carried: &mut Carried) {
         if !self.is_on {
             return;
         }
+        self.pairs.truncate(pairs.saturating_add(left));
         if self.pairs.len() < pairs {
             self.lose();
             return;
@@ -285,9 +285,28 @@ impl Stamps {
 
     /// Links with the stamp of an equation of a parcel: so many were linked of its last ones.
     pub(crate) fn link_carried(&mut self, carried: &Carried, linked: usize) {
-        let stamp = carried.before_last(linked);
-        self.link_at(stamp);
+        self.made = carried.before_last(linked);
     }
+}
+
+/// Puts a stamp at a place that a list doesn't have yet. Others, of which there are some after it, are of this stamp.
+fn put_new(list: &mut Vec<u32>, place: usize, stamp: u32, other: u32) -> Result<(), AllocError> {
+    list.resize(place.saturating_add(AHEAD), other)?;
+    if let Some(new) = list.get_mut(place) {
+        *new = stamp;
+    }
+    Ok(())
+}
+
+/// How many rounds there are up to the last one that fires a pair.
+fn rounds_of(fired: &[u64]) -> usize {
+    let mut rounds = 0;
+    for (place, count) in fired.iter().enumerate() {
+        if *count > 0 {
+            rounds = place.saturating_add(1);
+        }
+    }
+    rounds
 }
 
 /// The word that waits for a word, if that is a name for which one does.

@@ -23,14 +23,13 @@ pub(crate) fn sweep(names: &mut Names, stamps: &mut Stamps)
     ensures memory { names.new.capacity ≡ names.old.capacity }
 {
     for name in 0..names.len() {
-        stamps.join(names, name as u32);
-        put_through(names, name as u32);
+        put_through(names, stamps, name as u32);
     }
 }
 
 /// Lets a name that waits for another one wait for what waits for that, which is free then. So it goes on until the name
 /// waits for no other name, or for one for which nothing waits.
-fn put_through(names: &mut Names, name: u32)
+fn put_through(names: &mut Names, stamps: &mut Stamps, name: u32)
     requires there { name < length names.old.entries }
     requires room { IsRoomy names.old.entries }
     ensures steps { (p : Plans) (rest : List Piece) → Steps p []
@@ -52,6 +51,7 @@ fn put_through(names: &mut Names, name: u32)
         if waiting.tag >= IDLE {
             return;
         }
+        stamps.put_through(name, between.index);
         names.free(between.index);
         names.replace(name, waiting);
     }

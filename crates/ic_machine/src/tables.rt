@@ -12,7 +12,7 @@ ghost use Rattle.ic_machine.specs.inner.Pairs.{CanFire, IsFirst, IsLast};
 
 use crate::equation::Equation;
 use crate::firing::{MAX_ENTRIES, make_agents, open_names, reserve_blocks, reserve_each, take};
-use crate::linking::link_each;
+use crate::linking::link_all;
 use crate::machine::MachineFault;
 use crate::plan::Plan;
 use crate::queue::Queue;
@@ -167,7 +167,7 @@ impl Tables {
     }
 
     /// Makes what a plan makes of the arguments in the registers.
-    pub(crate) fn make(&mut self, plan: &Plan)
+    pub(crate) fn make<const STAMPED: bool>(&mut self, plan: &Plan)
         requires ready { IsReady (planned plan.now) self.old }
         requires memory { HasMemory (planned plan.now) 0 self.old }
         ensures made { IsMade (planned plan.now) self.old self.new }
@@ -180,7 +180,7 @@ impl Tables {
     {
         open_names(&mut self.names, plan.names, &mut self.registers);
         make_agents(&mut self.heaps, &plan.makes, &mut self.registers);
-        link_each(
+        link_all::<STAMPED>(
             &mut self.names,
             &mut self.pending,
             &mut self.stamps,
@@ -190,7 +190,11 @@ impl Tables {
     }
 
     /// Fires the last pending pair. Where memory is refused, it is pending as before.
-    pub(crate) fn fire_last(&mut self, pair: Equation, plan: &Plan) -> Result<(), MachineFault>
+    pub(crate) fn fire_last<const STAMPED: bool>(
+        &mut self,
+        pair: Equation,
+        plan: &Plan,
+    ) -> Result<(), MachineFault>
         requires few { length self.old.names.entries < 2 ^ 32 }
         requires symbols { length self.old.heaps.items < GIVEN }
         requires registers { take (length self.old.heaps.items) self.old.registers.items
@@ -224,13 +228,13 @@ impl Tables {
     {
         let arguments = self.arguments(pair);
         self.prepare(plan, arguments)?;
-        self.stamps.count_last(&self.pending);
+        self.stamps.count_last::<STAMPED>(&self.pending);
         self.pending.pop();
-        self.fire(pair, plan);
+        self.fire::<STAMPED>(pair, plan);
         Ok(())
     }
 
-    /// Fires the first pending pair. Where memory is refused, it is pending as before.
+    /// Fires the first pending pair, without stamps. Where memory is refused, it is pending as before.
     pub(crate) fn fire_first(&mut self, pair: Equation, plan: &Plan) -> Result<(), MachineFault>
         requires few { length self.old.names.entries < 2 ^ 32 }
         requires symbols { length self.old.heaps.items < GIVEN }
@@ -266,7 +270,7 @@ impl Tables {
         let arguments = self.arguments(pair);
         self.prepare(plan, arguments)?;
         self.pending.take_first();
-        self.fire(pair, plan);
+        self.fire::<false>(pair, plan);
         Ok(())
     }
 
@@ -285,7 +289,7 @@ impl Tables {
 
     /// Fires a pair that is no longer pending, for which there is all memory.
     #[inline(always)]
-    fn fire(&mut self, pair: Equation, plan: &Plan)
+    fn fire<const STAMPED: bool>(&mut self, pair: Equation, plan: &Plan)
         requires symbols { length self.old.heaps.items < GIVEN }
         requires registers { self.old.registers.items ≡ constants (length self.old.heaps.items) }
         requires plan { CanFire (arities_of self.old.heaps.items) pair (planned plan.now) }
@@ -310,6 +314,6 @@ impl Tables {
     {
         take(&mut self.heaps, pair.left, &mut self.registers);
         take(&mut self.heaps, pair.right, &mut self.registers);
-        self.make(plan);
+        self.make::<STAMPED>(plan);
     }
 }

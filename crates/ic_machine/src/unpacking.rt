@@ -223,7 +223,7 @@ fn set_apart(names: &mut Names, stamps: &mut Stamps, waited: Option<u32>, stack:
     let name = names.open();
     names.put(name, word);
     stack.push_reserved(Word::name(name));
-    stamps.mark(name, stamp);
+    stamps.mark::<true>(name, stamp);
 }
 
 /// The name of a cut: that of its border, if the other end is here, or a new one.
@@ -374,9 +374,11 @@ fn link_pairs(tables: &mut Tables, stack: &[Word], stamps: &Carried)
             right: stack[2 * place],
         };
         tables.stamps.link_carried(stamps, place);
-        tables
-            .stamps
-            .stamp(&tables.names, &tables.pending, equation);
-        link(&mut tables.names, &mut tables.pending, equation);
+        link::<true>(
+            &mut tables.names,
+            &mut tables.pending,
+            &mut tables.stamps,
+            equation,
+        );
     }
 }

@@ -11,7 +11,7 @@ use Rattle.ic_machine.proofs.Links.{meeting, meets_right, named_turned, side_roo
 use Rattle.ic_machine.proofs.linking.link.Goals as goal
 
 pub follow-init : goal.follow-init
-follow-init c = record {
+follow-init g c = record {
   steps = λ p rest.
       let xs : List Piece = equated_of c.args.equation ∷ (names_pieces 0 c.args.names.now.entries ++ rest) in
       no_step xs xs (IsPermutation-refl xs);
@@ -25,10 +25,10 @@ follow-init c = record {
 }
 
 pub taken-requires : goal.taken-requires
-taken-requires c = record { room = side_room c.follow.left c.follow.right c.follow.names.entries c.follow.invariant.named }
+taken-requires g c = record { room = side_room c.follow.left c.follow.right c.follow.names.entries c.follow.invariant.named }
 
 pub taken-requires-in_default : goal.taken-requires-in_default
-taken-requires-in_default c =
+taken-requires-in_default g c =
     let l : Word = c.follow.left in
     let r : Word = c.follow.right in
     record {
@@ -38,7 +38,7 @@ taken-requires-in_default c =
 
 -- what waited for the left side takes its place
 pub follow-preserved-in-Some : goal.follow-preserved-in-Some
-follow-preserved-in-Some c =
+follow-preserved-in-Some g c =
     let l : Word = c.follow.left in
     let r : Word = c.follow.right in
     let u : Word = c.in-Some.waiting in
@@ -58,7 +58,7 @@ follow-preserved-in-Some c =
 
 -- what waited for the right side does
 pub follow-preserved : goal.follow-preserved
-follow-preserved c =
+follow-preserved g c =
     let l : Word = c.follow.left in
     let r : Word = c.follow.right in
     let u : Word = c.in-Some-taken.waiting in
@@ -81,7 +81,7 @@ follow-preserved c =
     }
 
 pub returns-in_default-taken-clause-steps : goal.returns-in_default-taken-clause-steps
-returns-in_default-taken-clause-steps c = λ p rest.
+returns-in_default-taken-clause-steps g c = λ p rest.
     let l : Word = c.follow.left in
     let r : Word = c.follow.right in
     let ns : List Piece = names_pieces 0 c.follow.names.entries in
@@ -93,7 +93,7 @@ returns-in_default-taken-clause-steps c = λ p rest.
     (c.in_default-taken.ensures.same ∙ c.in_default.ensures.same) (c.settle.ensures.steps p rest)))
 
 pub returns-in_default-taken-clause-pair : goal.returns-in_default-taken-clause-pair
-returns-in_default-taken-clause-pair c = λ e.
+returns-in_default-taken-clause-pair g c = λ e.
     let same = c.follow.invariant.pair e in
     let given : record { left = c.follow.left; right = c.follow.right } ≡ c.args.equation =
     λ i. record { left = same.0 i; right = same.1 i } in
@@ -102,7 +102,7 @@ returns-in_default-taken-clause-pair c = λ e.
     ∙ ap (λ (v : Equation). c.args.pending.now.items ++ v ∷ []) given)
 
 pub returns-in_default-taken-clause-bare : goal.returns-in_default-taken-clause-bare
-returns-in_default-taken-clause-bare c = λ p rest more is.
+returns-in_default-taken-clause-bare g c = λ p rest more is.
     let l : Word = c.follow.left in
     let r : Word = c.follow.right in
     let ns : List Piece = names_pieces 0 c.follow.names.entries in

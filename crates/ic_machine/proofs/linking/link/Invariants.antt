@@ -8,7 +8,7 @@ use Rattle.ic_machine.specs.inner.Linking.{AreNamed}
 use Rattle.ic_machine.proofs.linking.link.Given as goal
 
 abbrev pub invariant-follow : goal.invariant-follow
-invariant-follow l = record {
+invariant-follow g l = record {
   steps : (p : Plans) (rest : List Piece) → Steps p []
       (equated_of l.fn.equation ∷ (names_pieces 0 l.initial.names.entries ++ rest))
       (equated l.left l.right ∷ (names_pieces 0 l.names.entries ++ rest));
@@ -22,4 +22,4 @@ invariant-follow l = record {
 }
 
 abbrev pub decreases-follow : goal.decreases-follow
-decreases-follow l = length (names_pieces 0 l.names.entries)
+decreases-follow g l = length (names_pieces 0 l.names.entries)

@@ -13,7 +13,7 @@ use Rattle.ic_machine.proofs.Links.{on_left, on_neither, on_right}
 use Rattle.ic_machine.proofs.linking.settle.Goals as goal
 
 pub returns-then-equation-eq-NAME-clause-steps : goal.returns-then-equation-eq-NAME-clause-steps
-returns-then-equation-eq-NAME-clause-steps c = λ p rest.
+returns-then-equation-eq-NAME-clause-steps g c = λ p rest.
     let l : Word = c.args.equation.left in
     let r : Word = c.args.equation.right in
     let ns : List Piece = names_pieces 0 c.args.names.now.entries in
@@ -24,7 +24,7 @@ returns-then-equation-eq-NAME-clause-steps c = λ p rest.
     (put_down p (name_word l.index) r ns (names_pieces 0 c.put.new.self.entries) others c.put.ensures.put)
 
 pub returns-then-equation-eq-NAME-2-clause-steps : goal.returns-then-equation-eq-NAME-2-clause-steps
-returns-then-equation-eq-NAME-2-clause-steps c = λ p rest.
+returns-then-equation-eq-NAME-2-clause-steps g c = λ p rest.
     let l : Word = c.args.equation.left in
     let r : Word = c.args.equation.right in
     let ns : List Piece = names_pieces 0 c.args.names.now.entries in
@@ -36,7 +36,7 @@ returns-then-equation-eq-NAME-2-clause-steps c = λ p rest.
     (put_down p (name_word r.index) l ns ms others c.put-then-equation-eq-NAME-2.ensures.put)
 
 pub returns-else-equation-eq-NAME-2-clause-steps : goal.returns-else-equation-eq-NAME-2-clause-steps
-returns-else-equation-eq-NAME-2-clause-steps c = λ p rest.
+returns-else-equation-eq-NAME-2-clause-steps g c = λ p rest.
     let ns : List Piece = names_pieces 0 c.args.names.now.entries in
     let start : List Piece = equated_of c.args.equation ∷ (ns ++ (map equated_of c.args.pending.now.items ++ rest)) in
     on_neither p start c.args.equation ns rest c.args.pending.now.items c.push_reserved.new.self.items
@@ -47,7 +47,7 @@ none_more : (us more : List Equation) → us ≡ us ++ more → [] ≡ more
 none_more us more is = append_cancel_left us [] more (append-nil us ∙ is)
 
 pub returns-then-equation-eq-NAME-clause-bare : goal.returns-then-equation-eq-NAME-clause-bare
-returns-then-equation-eq-NAME-clause-bare c = λ p rest more is.
+returns-then-equation-eq-NAME-clause-bare g c = λ p rest more is.
     let l : Word = c.args.equation.left in
     let r : Word = c.args.equation.right in
     let ns : List Piece = names_pieces 0 c.args.names.now.entries in
@@ -59,7 +59,7 @@ returns-then-equation-eq-NAME-clause-bare c = λ p rest more is.
     (put_down p (name_word l.index) r ns ms rest c.put.ensures.put))
 
 pub returns-then-equation-eq-NAME-2-clause-bare : goal.returns-then-equation-eq-NAME-2-clause-bare
-returns-then-equation-eq-NAME-2-clause-bare c = λ p rest more is.
+returns-then-equation-eq-NAME-2-clause-bare g c = λ p rest more is.
     let l : Word = c.args.equation.left in
     let r : Word = c.args.equation.right in
     let ns : List Piece = names_pieces 0 c.args.names.now.entries in
@@ -71,7 +71,7 @@ returns-then-equation-eq-NAME-2-clause-bare c = λ p rest more is.
     (put_down p (name_word r.index) l ns ms rest c.put-then-equation-eq-NAME-2.ensures.put))
 
 pub returns-else-equation-eq-NAME-2-clause-bare : goal.returns-else-equation-eq-NAME-2-clause-bare
-returns-else-equation-eq-NAME-2-clause-bare c = λ p rest more is.
+returns-else-equation-eq-NAME-2-clause-bare g c = λ p rest more is.
     let e : Equation = c.args.equation in
     let ns : List Piece = names_pieces 0 c.args.names.now.entries in
     let one : e ∷ [] ≡ more = append_cancel_left c.args.pending.now.items (e ∷ []) more (sym c.push_reserved.ensures.items ∙ is) in

@@ -8,7 +8,7 @@ use Rattle.ic_machine.specs.inner.Linking.{Pushed}
 use Rattle.ic_machine.specs.inner.Unpacking.{pairs_on, AreEntered}
 use Rattle.ic_machine.proofs.unpacking.link_pairs.Given as goal
 
--- as in `link_each`: what is left to link, and what was linked
+-- as in `link_all`: what is left to link, and what was linked
 abbrev pub invariant-loop-place : goal.invariant-loop-place
 invariant-loop-place l = record {
   steps : (p : Plans) (rest : List Piece) → Steps p []

@@ -40,7 +40,7 @@ beside_others t e s =
 
 -- ---- what is known as the arguments are in the registers
 
-module _ (c : After-take-2) where
+module _ (g : _) (c : After-take-2 g) where
   arities3 : arities_of c.take-2.new.heaps.items ≡ arities_of c.args.self.now.heaps.items
   arities3 = c.take-2.ensures.arities ∙ c.take.ensures.arities
 
@@ -59,12 +59,12 @@ module _ (c : After-take-2) where
       ∙ ap (λ (x : List Word). x ++ (l.args ++ r.args)) c.requires.registers))
 
 pub take-requires-clause-symbol : goal.take-requires-clause-symbol
-take-requires-clause-symbol c =
+take-requires-clause-symbol g c =
     let below = (left_table c.args.self.now.heaps.items c.args.pair (planned c.args.plan.now) c.requires.plan).0 in
     omega (arith, c.requires.plan.left_tag)
 
 pub take-requires-clause-there : goal.take-requires-clause-there
-take-requires-clause-there c = λ some.
+take-requires-clause-there g c = λ some.
     let t : Tables = c.args.self.now in
     let can = c.requires.plan in
     let arity = (left_table t.heaps.items c.args.pair (planned c.args.plan.now) can).1 in
@@ -72,19 +72,19 @@ take-requires-clause-there c = λ some.
     (beside_others t c.args.pair c.requires.separate) can.left_tag can.left_arity (omega arith)
 
 pub take-requires-clause-room : goal.take-requires-clause-room
-take-requires-clause-room c =
+take-requires-clause-room g c =
     let room = c.requires.memory.registers in
     let whole = c.args.self.now.registers.ok.0 in
     omega arith
 
 pub take-requires-2-clause-symbol : goal.take-requires-2-clause-symbol
-take-requires-2-clause-symbol c =
+take-requires-2-clause-symbol g c =
     let below = (right_table c.args.self.now.heaps.items c.args.pair (planned c.args.plan.now) c.requires.plan).0 in
     let len = as_many c.args.self.now.heaps.items c.take.new.heaps.items c.take.ensures.arities in
     omega (arith, c.requires.plan.right_tag)
 
 pub take-requires-2-clause-there : goal.take-requires-2-clause-there
-take-requires-2-clause-there c = λ some.
+take-requires-2-clause-there g c = λ some.
     let t : Tables = c.args.self.now in
     let e : Equation = c.args.pair in
     let can = c.requires.plan in
@@ -95,7 +95,7 @@ take-requires-2-clause-there c = λ some.
     (beside_others t e c.requires.separate) can.right_tag can.right_arity (omega arith)
 
 pub take-requires-2-clause-room : goal.take-requires-2-clause-room
-take-requires-2-clause-room c =
+take-requires-2-clause-room g c =
     let t : Tables = c.args.self.now in
     let l = c.take.ensures.taken in
     let left = l.count in
@@ -106,8 +106,8 @@ take-requires-2-clause-room c =
     omega (arith, c.take.ensures.capacity)
 
 pub make-requires-clause-ready : goal.make-requires-clause-ready
-make-requires-clause-ready c =
-    let d = (goal.at.make-requires-clause-ready c).After-take-2 in
+make-requires-clause-ready g c =
+    let d = (goal.at.make-requires-clause-ready g c).After-take-2 in
     let e : Equation = c.args.pair in
     let can = c.requires.plan in
     let t : Tables = c.args.self.now in
@@ -122,12 +122,12 @@ make-requires-clause-ready c =
     let right : length r.args ≡ can.right_args = r.count ∙ ((c.take.ensures.sizes (e.right.tag - 1)).arity ∙ (right_table h1 e p can).1) in
     let count : length args ≡ can.left_args + can.right_args = length-append l.args r.args ∙ (rw (left, right) refl) in
     let few : length h1 < GIVEN = c.requires.symbols in
-    let same : length h3 ≡ length h1 = len3 d in
+    let same : length h3 ≡ length h1 = len3 g d in
     let separate = beside_others t e c.requires.separate in
     record {
       args = args;
-      filled = filled d ∙ ap (λ (k : ℕ). constants k ++ args) (sym same);
-      plan = subst (λ (a : List ℕ). IsPlan a (length args) p) (sym (arities3 d))
+      filled = filled g d ∙ ap (λ (k : ℕ). constants k ++ args) (sym same);
+      plan = subst (λ (a : List ℕ). IsPlan a (length args) p) (sym (arities3 g d))
           (subst (λ (k : ℕ). IsPlan (arities_of h1) k p) (sym count) can.is_plan);
       words = args_words t.names.entries t.pending.items e _ _ h1 h2 h3 t.registers.items c.take.new.registers.items
           c.take-2.new.registers.items l r separate few;
@@ -137,8 +137,8 @@ make-requires-clause-ready c =
     }
 
 pub make-requires-clause-memory : goal.make-requires-clause-memory
-make-requires-clause-memory c =
-    let d = (goal.at.make-requires-clause-memory c).After-take-2 in
+make-requires-clause-memory g c =
+    let d = (goal.at.make-requires-clause-memory g c).After-take-2 in
     let t : Tables = c.args.self.now in
     let memory = c.requires.memory in
     let p : Planned = planned c.args.plan.now in
@@ -156,12 +156,12 @@ make-requires-clause-memory c =
       pending = memory.pending;
       registers = omega (arith, c.take.ensures.capacity, c.take-2.ensures.capacity);
       heaps = all_of (HasRoom t.heaps.items (length p.made)) (HasRoom c.take-2.new.heaps.items (length p.made))
-          p.made (λ m room. room_same t.heaps.items c.take-2.new.heaps.items (length p.made) m (sizes3 d) room) memory.heaps;
+          p.made (λ m room. room_same t.heaps.items c.take-2.new.heaps.items (length p.made) m (sizes3 g d) room) memory.heaps;
     }
 
 pub returns-clause-fires : goal.returns-clause-fires
-returns-clause-fires c = λ q i a b rest left_tag right_tag arities number pending aside.
-    let d = (goal.at.returns-clause-fires c).After-take-2 in
+returns-clause-fires g c = λ q i a b rest left_tag right_tag arities number pending aside.
+    let d = (goal.at.returns-clause-fires g c).After-take-2 in
     let t : Tables = c.args.self.now in
     let e : Equation = c.args.pair in
     let can = c.requires.plan in
@@ -214,38 +214,38 @@ returns-clause-fires c = λ q i a b rest left_tag right_tag arities number pendi
       places = λ kind.
           let t3 : Tables = record t { heaps = c.take-2.new.heaps; registers = c.take-2.new.registers } in
           made.places kind rest
-          ∙ ap (λ (k : ℕ). max k (in_use kind (new ++ others all))) (same_size t t3 refl (λ s. (sizes3 d s).count) kind);
+          ∙ ap (λ (k : ℕ). max k (in_use kind (new ++ others all))) (same_size t t3 refl (λ s. (sizes3 g d s).count) kind);
     }
 
 pub returns-clause-arities : goal.returns-clause-arities
-returns-clause-arities c = c.make.ensures.arities ∙ (c.take-2.ensures.arities ∙ c.take.ensures.arities)
+returns-clause-arities g c = c.make.ensures.arities ∙ (c.take-2.ensures.arities ∙ c.take.ensures.arities)
 
 pub returns-clause-registers : goal.returns-clause-registers
-returns-clause-registers c =
-    let d = (goal.at.returns-clause-registers c).After-take-2 in
+returns-clause-registers g c =
+    let d = (goal.at.returns-clause-registers g c).After-take-2 in
     let made = c.make.ensures.made in
     let more : List Word = made.names ++ made.made in
     let args : List Word = c.take.ensures.taken.args ++ c.take-2.ensures.taken.args in
     let n : ℕ = length c.args.self.now.heaps.items in
     let hs : List Blocks = c.make.new.self.heaps.items in
     first_of n (length hs) c.make.new.self.registers.items (args ++ more)
-    (as_many c.take-2.new.heaps.items hs c.make.ensures.arities ∙ len3 d)
-    (made.registers ∙ (ap (λ (x : List Word). x ++ more) (filled d) ∙ append_assoc (constants n) args more))
+    (as_many c.take-2.new.heaps.items hs c.make.ensures.arities ∙ len3 g d)
+    (made.registers ∙ (ap (λ (x : List Word). x ++ more) (filled g d) ∙ append_assoc (constants n) args more))
 
 pub returns-clause-spare : goal.returns-clause-spare
-returns-clause-spare c = λ some.
-    let d = (goal.at.returns-clause-spare c).After-take-2 in
+returns-clause-spare g c = λ some.
+    let d = (goal.at.returns-clause-spare g c).After-take-2 in
     let p : Planned = planned c.args.plan.now in
     let t : Tables = c.args.self.now in
     let k : ℕ = c.make.new.self.spare in
     let same : k ≡ t.spare = c.make.ensures.spare in
     let more : ℕ = p.names + length p.made + length p.links in
     let room : HasRoomFor (k + more) t = subst (λ (x : ℕ). HasRoomFor (x + more) t) (sym same) (c.requires.spare (omega arith)) in
-    let len : length c.take-2.new.heaps.items ≡ length t.heaps.items = len3 d in
+    let len : length c.take-2.new.heaps.items ≡ length t.heaps.items = len3 g d in
     c.make.ensures.room k (record {
       names = room.names;
       few = room.few;
       pending = room.pending;
-      heaps = λ s lt. blocks_same (k + more) (table t.heaps.items s) (table c.take-2.new.heaps.items s) (sizes3 d s)
+      heaps = λ s lt. blocks_same (k + more) (table t.heaps.items s) (table c.take-2.new.heaps.items s) (sizes3 g d s)
           (room.heaps s (omega arith));
     })

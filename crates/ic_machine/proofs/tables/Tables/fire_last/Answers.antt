@@ -24,53 +24,53 @@ use Rattle.ic_machine.proofs.tables.Tables.fire_last.Goals.{After-pop}
 same_left : (others left : List Equation) (e : Equation) → left ++ e ∷ [] ≡ others ++ e ∷ [] → left ≡ others
 same_left others left e is = append_cancel_right left others (e ∷ []) is
 
-module _ (c : After-pop) where
+module _ (g : _) (c : After-pop g) where
   -- the pair is taken out
   out : c.args.self.now.pending.items ≡ c.pop.new.self.items ++ c.args.pair ∷ []
   out = sym c.prepare.ensures.pending ∙ c.pop.ensures.items c.args.pair (record { front = c.requires.last.front; is = c.prepare.ensures.pending ∙ c.requires.last.is })
 
 pub arguments-arguments-requires-clause-left : goal.arguments-arguments-requires-clause-left
-arguments-arguments-requires-clause-left c =
+arguments-arguments-requires-clause-left g c =
     let below = (left_table c.args.self.now.heaps.items c.args.pair (planned c.args.plan.now) c.requires.plan).0 in
     (omega (arith, c.requires.plan.left_tag), omega (arith, c.requires.plan.left_tag))
 
 pub arguments-arguments-requires-clause-right : goal.arguments-arguments-requires-clause-right
-arguments-arguments-requires-clause-right c =
+arguments-arguments-requires-clause-right g c =
     let below = (right_table c.args.self.now.heaps.items c.args.pair (planned c.args.plan.now) c.requires.plan).0 in
     (omega (arith, c.requires.plan.right_tag), omega (arith, c.requires.plan.right_tag))
 
 pub prepare-requires-clause-known : goal.prepare-requires-clause-known
-prepare-requires-clause-known c =
+prepare-requires-clause-known g c =
     let p : Planned = planned c.args.plan.now in
     let hs : List Blocks = c.args.self.now.heaps.items in
     let can = c.requires.plan in
     made_known hs (length (arities_of hs) + (can.left_args + can.right_args) + p.names) p.made can.is_plan.made
 
 pub fire-requires-clause-symbols : goal.fire-requires-clause-symbols
-fire-requires-clause-symbols c =
+fire-requires-clause-symbols g c =
     let few = c.requires.symbols in
     let len = same_length c.args.self.now.heaps.items c.prepare.new.self.heaps.items c.prepare.ensures.heaps in
     omega arith
 
 pub fire-requires-clause-registers : goal.fire-requires-clause-registers
-fire-requires-clause-registers c =
+fire-requires-clause-registers g c =
     c.prepare.ensures.registers ∙ (c.requires.registers
     ∙ ap constants (sym (same_length c.args.self.now.heaps.items c.prepare.new.self.heaps.items c.prepare.ensures.heaps)))
 
 pub fire-requires-clause-plan : goal.fire-requires-clause-plan
-fire-requires-clause-plan c =
+fire-requires-clause-plan g c =
     subst (λ (a : List ℕ). CanFire a c.args.pair (planned c.args.plan.now))
     (sym (same_arities c.args.self.now.heaps.items c.prepare.new.self.heaps.items c.prepare.ensures.heaps)) c.requires.plan
 
 pub fire-requires-clause-separate : goal.fire-requires-clause-separate
-fire-requires-clause-separate c =
+fire-requires-clause-separate g c =
     let t : Tables = c.args.self.now in
-    let d = (goal.at.fire-requires-clause-separate c).After-pop in
+    let d = (goal.at.fire-requires-clause-separate g c).After-pop in
     separate_apart t (record c.prepare.new.self { pending = c.pop.new.self }) c.args.pair c.prepare.ensures.names c.prepare.ensures.heaps
-    (last_apart t c.args.pair c.pop.new.self.items [] (out d)) c.requires.separate
+    (last_apart t c.args.pair c.pop.new.self.items [] (out g d)) c.requires.separate
 
 pub fire-requires-clause-memory : goal.fire-requires-clause-memory
-fire-requires-clause-memory c =
+fire-requires-clause-memory g c =
     let t : Tables = c.prepare.new.self in
     let p : Planned = planned c.args.plan.now in
     let e : Equation = c.args.pair in
@@ -92,7 +92,7 @@ fire-requires-clause-memory c =
     }
 
 pub fire-requires-clause-spare : goal.fire-requires-clause-spare
-fire-requires-clause-spare c = λ some.
+fire-requires-clause-spare g c = λ some.
     let t : Tables = c.prepare.new.self in
     let p : Planned = planned c.args.plan.now in
     let room : HasRoomFor (t.spare + size_of p) t = c.in_ok-prepare.ensures.spare some in
@@ -106,10 +106,10 @@ fire-requires-clause-spare c = λ some.
     }
 
 pub returns-in_err-prepare-clause-spare : goal.returns-in_err-prepare-clause-spare
-returns-in_err-prepare-clause-spare c = λ some. absurd (omega (arith, c.in_err-prepare.ensures.none))
+returns-in_err-prepare-clause-spare g c = λ some. absurd (omega (arith, c.in_err-prepare.ensures.none))
 
 pub returns-in_err-prepare-clause-same : goal.returns-in_err-prepare-clause-same
-returns-in_err-prepare-clause-same c =
+returns-in_err-prepare-clause-same g c =
     let pieces = same_pieces c.args.self.now.heaps.items c.prepare.new.self.heaps.items 0 c.prepare.ensures.heaps in
     let same : (rest : List Equation) → held c.prepare.new.self (map equated_of rest) ≡ held c.args.self.now (map equated_of rest) =
     λ rest. rw (c.prepare.ensures.names, pieces, c.prepare.ensures.pending) refl in
@@ -117,7 +117,7 @@ returns-in_err-prepare-clause-same c =
     rw e.1 same
 
 pub returns-in_err-prepare-clause-places : goal.returns-in_err-prepare-clause-places
-returns-in_err-prepare-clause-places c =
+returns-in_err-prepare-clause-places g c =
     let same : (kind : ℕ) → size_at kind c.prepare.new.self ≡ size_at kind c.args.self.now =
     same_size c.args.self.now c.prepare.new.self (ap length c.prepare.ensures.names)
     (λ s. (same_at c.args.self.now.heaps.items c.prepare.new.self.heaps.items c.prepare.ensures.heaps s).1) in
@@ -125,41 +125,41 @@ returns-in_err-prepare-clause-places c =
     rw e.1 same
 
 pub returns-in_err-prepare-clause-arities : goal.returns-in_err-prepare-clause-arities
-returns-in_err-prepare-clause-arities c =
+returns-in_err-prepare-clause-arities g c =
     same_arities c.args.self.now.heaps.items c.prepare.new.self.heaps.items c.prepare.ensures.heaps
 
 pub returns-in_err-prepare-clause-registers : goal.returns-in_err-prepare-clause-registers
-returns-in_err-prepare-clause-registers c =
+returns-in_err-prepare-clause-registers g c =
     first_registers (length c.args.self.now.heaps.items) (length c.prepare.new.self.heaps.items)
     c.prepare.new.self.registers.items
     (same_length c.args.self.now.heaps.items c.prepare.new.self.heaps.items c.prepare.ensures.heaps)
     (c.prepare.ensures.registers ∙ c.requires.registers)
 
 pub returns-clause-fires : goal.returns-clause-fires
-returns-clause-fires c = λ q i a b others rest left_tag right_tag arities number pending aside is.
-    let d = (goal.at.returns-clause-fires c).After-pop in
+returns-clause-fires g c = λ q i a b others rest left_tag right_tag arities number pending aside is.
+    let d = (goal.at.returns-clause-fires g c).After-pop in
     let t : Tables = c.args.self.now in
     let u : Tables = record c.prepare.new.self { pending = c.pop.new.self } in
-    let left : c.pop.new.self.items ≡ others = same_left others c.pop.new.self.items c.args.pair (sym (out d) ∙ is) in
-    let pairs = all_front IsPair c.pop.new.self.items (c.args.pair ∷ []) (subst (AllByRecursion IsPair) (out d) pending) in
+    let left : c.pop.new.self.items ≡ others = same_left others c.pop.new.self.items c.args.pair (sym (out g d) ∙ is) in
+    let pairs = all_front IsPair c.pop.new.self.items (c.args.pair ∷ []) (subst (AllByRecursion IsPair) (out g d) pending) in
     let by = c.fire.ensures.fires q i a b rest left_tag right_tag
     (arities ∙ sym (same_arities t.heaps.items c.prepare.new.self.heaps.items c.prepare.ensures.heaps)) number pairs aside in
     subst (λ (l : List Equation). FiresBy q c.args.pair i t c.fire.new.self l rest) left
     (fires_before q c.args.pair i t u c.fire.new.self c.pop.new.self.items rest c.prepare.ensures.names c.prepare.ensures.heaps by)
 
 pub returns-clause-pairs : goal.returns-clause-pairs
-returns-clause-pairs c = λ pending.
-    let d = (goal.at.returns-clause-pairs c).After-pop in
+returns-clause-pairs g c = λ pending.
+    let d = (goal.at.returns-clause-pairs g c).After-pop in
     let more = c.fire.ensures.pushed in
     subst (AllByRecursion IsPair) (sym more.after) (all_append IsPair c.pop.new.self.items more.more
-    (all_front IsPair c.pop.new.self.items (c.args.pair ∷ []) (subst (AllByRecursion IsPair) (out d) pending)) more.pairs)
+    (all_front IsPair c.pop.new.self.items (c.args.pair ∷ []) (subst (AllByRecursion IsPair) (out g d) pending)) more.pairs)
 
 pub returns-clause-pushed : goal.returns-clause-pushed
-returns-clause-pushed c = λ others is.
-    let d = (goal.at.returns-clause-pushed c).After-pop in
+returns-clause-pushed g c = λ others is.
+    let d = (goal.at.returns-clause-pushed g c).After-pop in
     subst (λ (l : List Equation). Pushed l c.fire.new.self.pending.items)
-    (same_left others c.pop.new.self.items c.args.pair (sym (out d) ∙ is)) c.fire.ensures.pushed
+    (same_left others c.pop.new.self.items c.args.pair (sym (out g d) ∙ is)) c.fire.ensures.pushed
 
 pub returns-clause-arities : goal.returns-clause-arities
-returns-clause-arities c =
+returns-clause-arities g c =
     c.fire.ensures.arities ∙ same_arities c.args.self.now.heaps.items c.prepare.new.self.heaps.items c.prepare.ensures.heaps

@@ -23,7 +23,7 @@ use Rattle.ic_machine.proofs.Spare.{blocks_fewer, blocks_left}
 use Rattle.ic_machine.proofs.tables.Tables.make.Goals as goal
 
 pub make_agents-requires-clause-made : goal.make_agents-requires-clause-made
-make_agents-requires-clause-made c =
+make_agents-requires-clause-made g c =
     let t : Tables = c.args.self.now in
     let p : Planned = planned c.args.plan.now in
     let ready = c.requires.ready in
@@ -40,7 +40,7 @@ make_agents-requires-clause-made c =
     (subst (λ (k : ℕ). AreMade (arities_of t.heaps.items) k p.made) filled ready.plan.made)
 
 pub make_agents-requires-clause-words : goal.make_agents-requires-clause-words
-make_agents-requires-clause-words c =
+make_agents-requires-clause-words g c =
     let t : Tables = c.args.self.now in
     let ready = c.requires.ready in
     let opened = c.open_names.ensures.opened in
@@ -51,8 +51,8 @@ make_agents-requires-clause-words c =
     (all_append (λ w. w.tag < IDLE) (constants symbols) ready.args (constant_words symbols ready.symbols) ready.words)
     (name_words opened.names opened.tags))
 
-pub link_each-requires-clause-links : goal.link_each-requires-clause-links
-link_each-requires-clause-links c =
+pub link_all-requires-clause-links : goal.link_all-requires-clause-links
+link_all-requires-clause-links g c =
     let t : Tables = c.args.self.now in
     let p : Planned = planned c.args.plan.now in
     let ready = c.requires.ready in
@@ -76,7 +76,7 @@ link_each-requires-clause-links c =
     opened.pieces ready.named))
 
 pub returns-clause-made : goal.returns-clause-made
-returns-clause-made c =
+returns-clause-made g c =
     let t : Tables = c.args.self.now in
     let p : Planned = planned c.args.plan.now in
     let r0 : List Word = t.registers.items in
@@ -84,11 +84,11 @@ returns-clause-made c =
     let r2 : List Word = c.make_agents.new.registers.items in
     let ns : List Word = t.names.entries in
     let ns' : List Word = c.open_names.new.names.entries in
-    let ns'' : List Word = c.link_each.new.names.entries in
+    let ns'' : List Word = c.link_all.new.names.entries in
     let hs : List Blocks = t.heaps.items in
     let hs' : List Blocks = c.make_agents.new.heaps.items in
     let ps : List Equation = t.pending.items in
-    let qs : List Equation = c.link_each.new.pending.items in
+    let qs : List Equation = c.link_all.new.pending.items in
     let opened : Opened p.names ns ns' r0 r1 = c.open_names.ensures.opened in
     let makes = subst (λ (l : List Make). Makes (map made_of l) (heaps_pieces 0 hs) (heaps_pieces 0 hs') r1 r2)
     c.deref.ensures.value c.make_agents.ensures.made in
@@ -114,7 +114,7 @@ returns-clause-made c =
           (subst (λ (l : List Word). Steps q []
           (map (linked l) c.deref-2.result.now ++ (names_pieces 0 ns' ++ (map equated_of ps ++ others)))
           (names_pieces 0 ns'' ++ (map equated_of qs ++ others))) c.deref-3.ensures.value
-          (c.link_each.ensures.steps q others))));
+          (c.link_all.ensures.steps q others))));
       bare = λ q rest more is'. subst (λ (l : List Word). Steps q []
           (pieces_made p l opened.names makes.places ++ (names_pieces 0 ns ++ (heaps_pieces 0 hs ++ rest)))
           (names_pieces 0 ns'' ++ (heaps_pieces 0 hs' ++ (map equated_of more ++ rest)))) is
@@ -125,8 +125,8 @@ returns-clause-made c =
           (subst (λ (l : List Word). Steps q []
           (map (linked l) c.deref-2.result.now ++ (names_pieces 0 ns' ++ others))
           (names_pieces 0 ns'' ++ (map equated_of more ++ others))) c.deref-3.ensures.value
-          (c.link_each.ensures.bare q others more is'))));
-      places = λ kind rest. as_used t (record { names = c.link_each.new.names; heaps = c.make_agents.new.heaps; pending = c.link_each.new.pending; registers = c.make_agents.new.registers; spare = t.spare; stamps = c.link_each.new.stamps }) ns' hs' (c.link_each.ensures.names ∙ c.open_names.ensures.places)
+          (c.link_all.ensures.bare q others more is'))));
+      places = λ kind rest. as_used t (record { names = c.link_all.new.names; heaps = c.make_agents.new.heaps; pending = c.link_all.new.pending; registers = c.make_agents.new.registers; spare = t.spare; stamps = c.link_all.new.stamps }) ns' hs' (c.link_all.ensures.names ∙ c.open_names.ensures.places)
           c.make_agents.ensures.places kind
           ∙ ap (max (size_at kind t))
           (sym (subst (λ (l : List Word). in_use kind (pieces_made p l opened.names makes.places
@@ -135,7 +135,7 @@ returns-clause-made c =
     }
 
 pub returns-clause-room : goal.returns-clause-room
-returns-clause-room c = λ n h.
+returns-clause-room g c = λ n h.
     let t : Tables = c.args.self.now in
     let p : Planned = planned c.args.plan.now in
     let hs : List Blocks = t.heaps.items in
@@ -146,10 +146,10 @@ returns-clause-room c = λ n h.
     let many : length hs' ≡ length hs = as_many hs hs' c.make_agents.ensures.arities in
     let opened_few = c.open_names.ensures.few in
     let opened_memory = c.open_names.ensures.memory in
-    let linked_names = c.link_each.ensures.names in
-    let linked_memory = c.link_each.ensures.memory in
-    let longer = c.link_each.ensures.len in
-    let pending_memory = c.link_each.ensures.capacity in
+    let linked_names = c.link_all.ensures.names in
+    let linked_memory = c.link_all.ensures.memory in
+    let longer = c.link_all.ensures.len in
+    let pending_memory = c.link_all.ensures.capacity in
     let names : length t.names.entries + (n + (p.names + length p.made + length p.links)) ≤ t.names.capacity = h.names in
     let few : length t.names.entries + (n + (p.names + length p.made + length p.links)) < 2 ^ 32 = h.few in
     let pending : length t.pending.items + (n + (p.names + length p.made + length p.links)) ≤ t.pending.capacity = h.pending in

@@ -15,10 +15,10 @@ use Rattle.ic_machine.specs.lemmas.Orders.{to_front}
 use Rattle.ic_machine.specs.lemmas.StepsOn.{steps_to}
 use Rattle.ic_machine.proofs.Heads.{head_known, no_head, one_more}
 use Rattle.ic_machine.proofs.Links.{linked_on, links_first, links_from, links_on, links_past, pushed_none, pushed_twice}
-use Rattle.ic_machine.proofs.linking.link_each.Goals as goal
+use Rattle.ic_machine.proofs.linking.link_all.Goals as goal
 
 pub loop-each-init : goal.loop-each-init
-loop-each-init c = record {
+loop-each-init g c = record {
   steps = λ p rest.
       let xs : List Piece = map (linked c.args.registers.now) c.args.links.now
       ++ (names_pieces 0 c.args.names.now.entries ++ (map equated_of c.args.pending.now.items ++ rest)) in
@@ -39,7 +39,7 @@ loop-each-init c = record {
 }
 
 pub link-requires-clause-named : goal.link-requires-clause-named
-link-requires-clause-named c =
+link-requires-clause-named g c =
     let i : ℕ = c.loop-each.each-index in
     let none : Link = record { left = 0; right = 0 } in
     let l : Link = slice_index_or c.args.links.now i none in
@@ -48,7 +48,7 @@ link-requires-clause-named c =
     (links_from c.args.links.now i none c.loop-each-test.true) c.loop-each.invariant.links)
 
 pub loop-each-preserved : goal.loop-each-preserved
-loop-each-preserved c =
+loop-each-preserved g c =
     let i : ℕ = c.loop-each.each-index in
     let none : Link = record { left = 0; right = 0 } in
     let rs : List Word = c.args.registers.now in
@@ -101,7 +101,7 @@ loop-each-preserved c =
     }
 
 pub returns-clause-steps : goal.returns-clause-steps
-returns-clause-steps c = λ p rest.
+returns-clause-steps g c = λ p rest.
     let i : ℕ = c.loop-each.each-index in
     let rs : List Word = c.args.registers.now in
     let tables : List Piece = names_pieces 0 c.loop-each.names.entries
@@ -112,12 +112,12 @@ returns-clause-steps c = λ p rest.
     (links_past c.args.links.now i c.loop-each-test.false) (c.loop-each.invariant.steps p rest)
 
 pub returns-clause-head : goal.returns-clause-head
-returns-clause-head c =
+returns-clause-head g c =
     head_known c.args.links.now c.args.registers.now c.loop-each.each-index c.args.pending.now.items c.loop-each.pending.items
     c.loop-each-test.false c.loop-each.invariant.head
 
 pub returns-clause-bare : goal.returns-clause-bare
-returns-clause-bare c = λ p rest more is.
+returns-clause-bare g c = λ p rest more is.
     let rs : List Word = c.args.registers.now in
     let tables : List Piece = names_pieces 0 c.loop-each.names.entries ++ (map equated_of more ++ rest) in
     let start : List Piece = map (linked rs) c.args.links.now ++ (names_pieces 0 c.args.names.now.entries ++ rest) in

@@ -7,10 +7,10 @@ use Rattle.ic_machine.specs.Net.{equated_of}
 use Rattle.ic_machine.specs.Steps.{Steps}
 use Rattle.ic_machine.specs.inner.Linking.{AreLinks, Pushed}
 use Rattle.ic_machine.proofs.Heads.{HeadSoFar}
-use Rattle.ic_machine.proofs.linking.link_each.Given as goal
+use Rattle.ic_machine.proofs.linking.link_all.Given as goal
 
 abbrev pub invariant-loop-each : goal.invariant-loop-each
-invariant-loop-each l = record {
+invariant-loop-each g l = record {
   steps : (p : Plans) (rest : List Piece) → Steps p []
       (map (linked l.registers) l.links
       ++ (names_pieces 0 l.initial.names.entries ++ (map equated_of l.initial.pending.items ++ rest)))
