@@ -53,14 +53,14 @@ def seen(place, content):
     head = f"file {place}: {'open' if gate else 'closed'}, number {number}, size {size}"
     if len(content) < HEAD + size:
         return f"{head}, cut short", number if gate else -1
-    state, rounds = content[HEAD:], ""
+    state, rounds, order = content[HEAD:], "", "in any order"
     if state[:8] == b"ICROUND1":
-        state, rounds = state[16:], f", rounds {struct.unpack('>Q', state[8:16])[0]}"
+        state, rounds, order = state[16:], f", rounds {struct.unpack('>Q', state[8:16])[0]}", "by rounds"
     if state[:8] != b"ICKEPT01":
         return f"{head}, no state", number if gate else -1
     _, interactions, ended, rules, words, millis = struct.unpack(">6Q", state[8:56])
     fields = f"interactions {interactions}, words {words}, rules {rules}, milliseconds {millis}{rounds}"
-    return f"{head}, {'ended' if ended else 'not ended'}, {fields}", number if gate else -1
+    return f"{head}, a reduction {order}, {'ended' if ended else 'not ended'}, {fields}", number if gate else -1
 
 
 def first_pair(line):
@@ -289,14 +289,25 @@ class Keep(Stops):
         self.equals(self.file, "whether the files hold what they did", before, self.contents())
 
     def test_each_order_goes_on_as_it_began(self):
-        text = ackermann(2)
-        for first, then, line in (("--steps", "--rounds", "its reduction doesn't go by rounds: resume it without `--rounds`"), ("--rounds", "--steps", "its reduction goes by rounds: `--rounds N` bounds it, `--steps` doesn't")):
+        text, in_any = ackermann(2), "its reduction doesn't go by rounds: resume it without `--rounds`"
+        by_rounds = "its reduction goes by rounds: `--rounds N` bounds it, without `--steps` and `--workers`"
+        for first, then, line in (("--steps", "--rounds", in_any), ("--rounds", "--steps", by_rounds), ("--rounds", "--workers", by_rounds)):
             self.clear()
             run("reduce", "--keep", self.file, first, 9, given=text)
             before = self.contents()
             ran = run("reduce", "--resume", self.file, then, 20)
             self.equals(ran.command, "how it is refused", (3, b"", f"icserve: other order\n{self.file}: {line}\n".encode()), (ran.status, ran.out, ran.err))
             self.equals(self.file, "whether the files hold what they did", before, self.contents())
+
+    def test_fewer_rounds_than_are_kept(self):
+        """The net after those that are kept is told, and that it is this one."""
+        answer = run("reduce", "--rounds", 9, given=ackermann(2)).out
+        run("reduce", "--keep", self.file, "--rounds", 9, given=ackermann(2))
+        for most in (0, 8, 9):
+            ran = run("reduce", "--resume", self.file, "--rounds", most, *FIGURES)
+            self.equals(ran.command, "status and net", (5, answer), (ran.status, ran.out))
+            lines = [f"icserve: more than {most} rounds are kept: this is the net after 9".encode()] if most < 9 else []
+            self.equals(ran.command, "what is told after the figures", [*lines, b"icserve: not done"], ran.err.splitlines()[1:])
 
     def test_inspect_tells_what_is_kept(self):
         total = self.whole(ackermann(2))[1]["interactions"]

@@ -5,10 +5,11 @@ import json
 import os
 import re
 import sys
+import unittest
 
 import draws
 import nets
-from program import IN_MEMORY, TOP, Trial, run
+from program import IN_MEMORY, PROGRAM, TOP, Trial, run
 
 sys.path.insert(0, str(TOP / "bench"))
 
@@ -24,7 +25,7 @@ PATIENT = 20_000
 SORT = (TOP / "examples/sort.ic").read_text()
 
 # What the figures tell of rounds.
-SPAN = re.compile(rb", span (\d+), pairs at once (\d+\.\d) on average, (\d+) at most, threads ")
+SPAN = re.compile(rb", (partial )?span (\d+), pairs at once (\d+\.\d) on average, (\d+) at most, threads ")
 
 
 def traced(text):
@@ -63,7 +64,7 @@ class Profiles(Trial):
             self.equals(ran.command, "status", 0, ran.status)
             self.equals(ran.command, "pairs of each round", pairs, told)
             figures = json.loads(ran.err.partition(b"\n")[0])
-            self.equals(ran.command, "its figures", summed(pairs), {it: figures[it] for it in ("span", "average", "greatest")})
+            self.equals(ran.command, "its figures", {**summed(pairs), "partial": False}, {it: figures[it] for it in ("span", "average", "greatest", "partial")})
             self.equals(ran.command, "interactions", sum(pairs), figures["interactions"])
         return sum(pairs)
 
@@ -95,11 +96,12 @@ class Profiles(Trial):
             self.are_rounds(f"{FIBONACCI}<r,s|F(r)={numeral(number)},F(s)={numeral(number - 3)}>", (2, 3, 4, 7))
 
     def test_a_reduction_that_is_cut(self):
-        """What has fired by then is told of the rounds in which it would fire."""
+        """What has fired by then is told of the rounds in which it would fire, and that it is a part."""
         pairs = traced(SORT)
         for steps in range(sum(pairs) + 1):
             ran, told = self.profile(SORT, "--steps", steps)
             self.equals(ran.command, "status", 5 if steps < sum(pairs) else 0, ran.status)
+            self.equals(ran.command, "whether it is partial", steps < sum(pairs), json.loads(ran.err.partition(b"\n")[0])["partial"])
             self.equals(ran.command, "pairs in all", steps, sum(told))
             self.equals(ran.command, "whether no round has more", True, all(it <= most for it, most in zip(told, pairs)))
 
@@ -108,9 +110,13 @@ class Profiles(Trial):
         for words in (["--span"], ["--span", "--stats"], ["--stats", "--profile", self.room / "table"]):
             ran = run("reduce", *words, given=SORT)
             told = SPAN.search(ran.err)
-            wanted = summed(pairs)
-            self.equals(ran.command, "what is told of rounds", [*map(str, wanted.values())], [it.decode() for it in told.groups()] if told else ran.err)
+            wanted = [str(it).encode() for it in summed(pairs).values()]
+            self.equals(ran.command, "what is told of rounds", (None, *wanted), told.groups() if told else ran.err)
         self.equals("reduce --stats", "what is told of rounds", None, SPAN.search(run("reduce", "--stats", given=SORT).err))
+        for words in (["--steps", 9], ["--nodes", 1_000, "--workers", 1], ["--nodes", 1_000, "--workers", 4]):
+            ran = run("reduce", "--span", *words, given=(TOP / "examples/unending.ic").read_text())
+            told = SPAN.search(ran.err)
+            self.equals(ran.command, "whether it is partial", b"partial ", told[1] if told else ran.err)
 
     def test_a_picture(self):
         """It has the bars of the picture of a trace, and no line."""
@@ -132,16 +138,52 @@ class Profiles(Trial):
         path.write_text("x" * 10_000)
         self.profile(SORT)
 
-    def test_a_file_that_cannot_be_written(self):
-        """The answer is printed all the same, and the line after that of the failure tells why."""
-        answer = run("reduce", given=SORT).out
-        for path, why in ((self.room, "is a folder"), (self.room / "no/such/folder", "no such file")):
-            ran = run("reduce", "--profile", path, given=SORT)
-            self.equals(ran.command, "status and answer", (4, answer), (ran.status, ran.out))
-            first, _, rest = ran.err.partition(b"\n")
-            self.equals(ran.command, "what is told", (b"icserve: write", True), (first, str(path).encode() in rest and rest.count(b"\n") == 1))
+    def test_a_file_that_cannot_be_had(self):
+        """It is told before a text is read, and the line after that of the failure tells why."""
+        for path, why in ((self.room, "is a folder"), (self.room / "no/such/folder", "no such file or folder")):
+            for given in (SORT, "{A><A}<|A=>"):
+                self.runs("reduce", "--span", "--profile", path, given=given, err=["icserve: write", f"{path}: open: {why}"], status=4)
 
-    def test_a_refused_text_writes_no_file(self):
-        path = self.room / "profile.tsv"
-        ran = run("reduce", "--profile", path, given="{A><A}<|A=>")
-        self.equals(ran.command, "status, and whether there is a file", (1, False), (ran.status, path.exists()))
+    @unittest.skipUnless(os.access("/dev/full", os.W_OK), "there is no /dev/full")
+    def test_a_file_that_takes_no_bytes(self):
+        """That is known at the end: the answer is printed."""
+        lines = ["icserve: write", "/dev/full: write: no room left on the device"]
+        self.runs("reduce", "--profile", "/dev/full", given=SORT, out=run("reduce", given=SORT).out, err=lines, status=4)
+
+    def test_a_refused_reduction_leaves_files_as_they_are(self):
+        """A new file is taken away, one that was there holds what it held, and so does what a link leads to."""
+        old, new, link, loose = (self.room / it for it in ("old", "new", "link", "loose"))
+        old.write_text("as it was")
+        link.symlink_to(old)
+        loose.symlink_to(new)
+        for path in (old, new, link):
+            ran = run("reduce", "--profile", path, given="{A><A}<|A=>")
+            self.equals(ran.command, "status, and whether a file was made", (1, False), (ran.status, new.exists()))
+            self.equals(ran.command, "what stood there", "as it was", old.read_text())
+        run("reduce", "--profile", loose, given="{A><A}<|A=>")
+        self.equals(loose, "whether the link is there", True, loose.is_symlink())
+
+    def redirected(self, *words, to):
+        """What stands in a file of this name after a reduction whose standard stream went there, by a shell."""
+        path = self.room / "redirected"
+        shell = ["-c", f'exec "$0" reduce "$@" {to}"{path}"', PROGRAM]
+        ran = run(*shell, *words, program="/bin/sh", given=SORT)
+        self.equals(ran.command, "status", 0, ran.status)
+        return ran, path.read_bytes()
+
+    def test_a_standard_stream(self):
+        """What goes to its file stands after what was written there before, and nothing of that is lost."""
+        answer, path = run("reduce", given=SORT).out, self.room / "table"
+        self.runs("reduce", "--quiet-answer", "--profile", path, given=SORT)
+        table = path.read_bytes()
+        path.unlink()
+        for name in ("-", "/dev/stdout"):
+            self.runs("reduce", "--profile", name, given=SORT, out=answer + table)
+            self.runs("reduce", "--quiet-answer", "--profile", name, given=SORT, out=table)
+        for name in ("-", "/dev/stdout", "/dev/fd/1", self.room / "redirected"):
+            for to in (">", ">>"):
+                ran, told = self.redirected("--profile", name, to=to)
+                self.agrees(ran.command, "what stands in the file", answer + table, told.removeprefix(answer + table if to == ">>" else b""))
+        ran, told = self.redirected("--quiet-answer", "--span", "--profile", "/dev/stderr", to="2>")
+        self.equals(ran.command, "table and figures", (table, True), (told[: len(table)], SPAN.search(told) is not None))
+        self.equals("--profile -", "whether a file is named so", False, os.path.lexists("-"))

@@ -201,7 +201,7 @@ after a stop in the first keep, give the same `--keep` again\n"
 /// The line that says of the file of this path in which order its reduction goes on.
 fn order_line(alloc: Global, by_rounds: bool, path: &[u8]) -> Result<Vec<u8>, AllocError> {
     let words = if by_rounds {
-        "its reduction goes by rounds: `--rounds N` bounds it, `--steps` doesn't"
+        "its reduction goes by rounds: `--rounds N` bounds it, without `--steps` and `--workers`"
     } else {
         "its reduction doesn't go by rounds: resume it without `--rounds`"
     };

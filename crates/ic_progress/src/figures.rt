@@ -92,13 +92,7 @@ fn rest_of_lines(
     if let Some(rounds) = rounds {
         write!(out, ", rounds {rounds}")?;
     }
-    if let Some(pairs) = &outcome.by_round {
-        let (span, whole, tenth, greatest) = span_of(pairs);
-        write!(
-            out,
-            ", span {span}, pairs at once {whole}.{tenth} on average, {greatest} at most"
-        )?;
-    }
+    put_span(outcome, &mut out)?;
     write!(out, ", threads {threads}, shared {shared}")?;
     let (seconds, thousandths) = (millis / 1_000, millis % 1_000);
     write!(out, ", seconds {seconds}.{thousandths:03}")?;
@@ -111,6 +105,37 @@ fn rest_of_lines(
     out.push('\n')?;
     shares.put_line(&mut out)?;
     Ok(out)
+}
+
+/// Appends what is known of the rounds in which pairs would fire. What was cut has fired a part of them.
+fn put_span(outcome: &Outcome, out: &mut String) -> Result<(), AllocError> {
+    let Some(pairs) = &outcome.by_round else {
+        return Ok(());
+    };
+    let (span, whole, tenth, greatest) = span_of(pairs);
+    let partial = if is_cut(outcome) { "partial " } else { "" };
+    write!(
+        out,
+        ", {partial}span {span}, pairs at once {whole}.{tenth} on average, {greatest} at most"
+    )
+}
+
+/// The same as members of an object.
+fn put_span_members(outcome: &Outcome, out: &mut String) -> Result<(), AllocError> {
+    let Some(pairs) = &outcome.by_round else {
+        return Ok(());
+    };
+    let (span, whole, tenth, greatest) = span_of(pairs);
+    let partial = is_cut(outcome);
+    write!(
+        out,
+        ",\"span\":{span},\"average\":{whole}.{tenth},\"greatest\":{greatest},\"partial\":{partial}"
+    )
+}
+
+/// Whether a reduction has ended where a step may still be possible.
+fn is_cut(outcome: &Outcome) -> bool {
+    !matches!(outcome.end, End::Quiet)
 }
 
 /// The span of rounds that would fire so many pairs each, how many they would on average, the tenths of it, and how many at most.
@@ -225,13 +250,7 @@ fn rest_of_object(
     if let Some(rounds) = rounds {
         write!(out, ",\"rounds\":{rounds}")?;
     }
-    if let Some(pairs) = &outcome.by_round {
-        let (span, whole, tenth, greatest) = span_of(pairs);
-        write!(
-            out,
-            ",\"span\":{span},\"average\":{whole}.{tenth},\"greatest\":{greatest}"
-        )?;
-    }
+    put_span_members(outcome, &mut out)?;
     write!(out, ",\"threads\":{threads},\"shared\":{shared}")?;
     shares.put_fields(&mut out)?;
     write!(out, ",\"milliseconds\":{millis},\"interactions_a_second\":")?;

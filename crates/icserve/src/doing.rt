@@ -2,7 +2,7 @@
 
 use crate::input::{self, Input, is_rich_path, open_text, tell_of_plain};
 use crate::keeping::{self, KeptIn};
-use crate::profiling::Profiled;
+use crate::profiling::{Profile, Profiled};
 use crate::reducing::{self, Wanted, of_memory, threads_for};
 use crate::texts::UsedFiles;
 use crate::{
@@ -248,14 +248,27 @@ fn limits_of(values: &Values) -> Limits {
     }
 }
 
+/// Where a profile is wanted, its place is opened before the text is read.
 fn reduce_in_place<T: Threads + Sync>(
     doing: &Doing<'_, '_, T>,
+    told: &mut Vec<u8>,
+) -> Result<(), Failure> {
+    let profiled = Profiled::of(doing.values);
+    let mut profile = Profile::open(doing.rt, profiled, doing.notes, told)?;
+    let reduced = reduce_profiled(doing, &mut profile, told);
+    profile.leave(doing.rt);
+    reduced
+}
+
+/// In any order, with this profile.
+fn reduce_profiled<T: Threads + Sync>(
+    doing: &Doing<'_, '_, T>,
+    profile: &mut Profile<'_, '_>,
     told: &mut Vec<u8>,
 ) -> Result<(), Failure> {
     let bounds = bounds_of(doing.values);
     let threads = threads_for(doing.threads, said_of(doing.values), bounds.steps);
     let wanted = wanted_of(doing.values, Policy::of(threads));
-    let profiled = Profiled::of(doing.values);
     let limits = limits_of(doing.values);
     let mut input = open_input(doing, told)?;
     let reduced = reducing::reduce(
@@ -264,7 +277,7 @@ fn reduce_in_place<T: Threads + Sync>(
         limits,
         bounds,
         wanted,
-        profiled,
+        profile,
         &mut input,
         doing.notes,
         told,
@@ -285,7 +298,7 @@ fn reduce_kept<T: Threads + Sync>(
         from_one: doing.values.flag(&ONE_FILE),
         seconds: doing.values.number(&SECONDS),
         rounds: doing.values.number_met(&ROUNDS),
-        has_steps: doing.values.number_met(&STEPS).is_some(),
+        is_in_any_order: has_order(doing.values),
     };
     let bounds = bounds_of(doing.values);
     let threads = threads_for(doing.threads, said_of(doing.values), bounds.steps);
@@ -306,6 +319,11 @@ fn reduce_kept<T: Threads + Sync>(
         told,
     );
     tell_of_plain(&input, reduced, told)
+}
+
+/// Whether it is said how many interactions are made at most, or how many threads reduce.
+fn has_order(values: &Values) -> bool {
+    values.number_met(&STEPS).is_some() || values.number_met(&REDUCERS).is_some()
 }
 
 /// How many threads are said to reduce, if it is said.

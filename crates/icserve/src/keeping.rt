@@ -20,7 +20,7 @@ use ic_text::Limits;
 use ic_workers::Policy;
 use std::alloc::AllocError;
 use std::fs::metadata;
-use std::io::{self, ErrorKind, Read};
+use std::io::{self, ErrorKind, Read, Write};
 use std::os::unix::fs::MetadataExt;
 use std::thread::Threads;
 use std::time::Duration;
@@ -38,8 +38,8 @@ pub(crate) struct KeptIn<'a> {
     pub(crate) seconds: u64,
     /// How many rounds are made at most, where that is said.
     pub(crate) rounds: Option<u64>,
-    /// Whether it is said how many interactions are made at most.
-    pub(crate) has_steps: bool,
+    /// Whether it is said how many interactions are made at most, or how many threads reduce: by rounds neither can be.
+    pub(crate) is_in_any_order: bool,
 }
 
 /// Reduces a system in place, keeps in two files what is reached, and prints it at the end, as far as that is wanted.
@@ -69,13 +69,28 @@ pub(crate) fn reduce<T: Threads + Sync, R: Read>(
         }
         lived => lived?,
     };
-    let by_rounds = ended.rounds.is_some();
+    let rounds = ended.rounds;
     let shares = watching.take_shares(rt.alloc());
     let done = tell(rt, ended, bounds, wanted, &shares, input.wording(), notes);
+    if let (Some(made), Some(most)) = (rounds, kept.rounds) {
+        if made > most {
+            tell_more(rt, made, most);
+        }
+    }
     if matches!(done, Err(Failure::Overgrown(_, _))) {
-        let _ = tell_kept(rt, kept.path, by_rounds, told);
+        let _ = tell_kept(rt, kept.path, rounds.is_some(), told);
     }
     done
+}
+
+/// Tells on standard error that more rounds are kept than were asked for at most, and which net it is.
+fn tell_more(rt: &HostRuntime, made: u64, most: u64) {
+    let line = format!(in rt.alloc();
+        "icserve: more than {most} rounds are kept: this is the net after {made}\n"
+    );
+    if let Ok(line) = line {
+        let _ = rt.stderr().write_all(line.as_bytes());
+    }
 }
 
 /// The paths of its two files, of which the second is this one.
@@ -252,7 +267,7 @@ fn open_both<'a>(
     let second = open_second(rt, path, false, notes)?;
     let order = check_fronts(rt, path, second_of(rt, path)?.as_str(), notes);
     match order.map_err(Failure::Kept)? {
-        Some(true) if kept.has_steps => Err(Failure::OtherOrder(true)),
+        Some(true) if kept.is_in_any_order => Err(Failure::OtherOrder(true)),
         Some(false) if kept.rounds.is_some() => Err(Failure::OtherOrder(false)),
         _ => Ok((first, second)),
     }
@@ -276,7 +291,7 @@ fn check_apart(
 }
 
 /// Whether these two paths are known to lead to one file.
-fn are_one(rt: &HostRuntime, path: &str, other: &str) -> bool {
+pub(crate) fn are_one(rt: &HostRuntime, path: &str, other: &str) -> bool {
     match (metadata(rt, path), metadata(rt, other)) {
         (Ok(one), Ok(other)) => one.dev() == other.dev() && one.ino() == other.ino(),
         _ => false,

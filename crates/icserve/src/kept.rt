@@ -361,6 +361,14 @@ fn gate_of(front: Front) -> &'static str {
     if front.opened { "open" } else { "closed" }
 }
 
+/// What a state is, in words.
+fn what_of(head: StateHead) -> &'static str {
+    match head.rounds {
+        Some(_) => "a reduction by rounds",
+        None => "a reduction in any order",
+    }
+}
+
 fn words_of(rt: &HostRuntime, place: u32, seen: Seen) -> Result<String, AllocError> {
     match seen {
         Seen::Missing => format!(in rt.alloc(); "file {place}: missing\n"),
@@ -378,8 +386,9 @@ fn words_of(rt: &HostRuntime, place: u32, seen: Seen) -> Result<String, AllocErr
             format!(in rt.alloc(); "{front}, no state\n")
         }
         Seen::State(front, head) => {
+            let what = what_of(head);
             let (front, head) = (front_words(rt, place, front)?, head_words(rt, head)?);
-            format!(in rt.alloc(); "{front}, {head}\n")
+            format!(in rt.alloc(); "{front}, {what}, {head}\n")
         }
     }
 }
@@ -421,8 +430,9 @@ fn object_of(rt: &HostRuntime, place: u32, seen: Seen) -> Result<String, AllocEr
             format!(in rt.alloc(); "{{{front}}}\n")
         }
         Seen::State(front, head) => {
+            let what = what_of(head);
             let (front, head) = (front_members(rt, place, front)?, head_members(rt, head)?);
-            format!(in rt.alloc(); "{{{front},{head}}}\n")
+            format!(in rt.alloc(); "{{{front},\"body\":\"{what}\",{head}}}\n")
         }
     }
 }

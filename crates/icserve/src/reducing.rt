@@ -3,7 +3,7 @@
 ghost use Rattle.std.specs.Prelude.{◌≡◌, ◌<◌, ◌≤◌, IfNone, IfSome, max, min};
 
 use crate::looking::{tell_circle, tell_stuck};
-use crate::profiling::{Profiled, put_profile};
+use crate::profiling::Profile;
 use ic_args::FiguresFormat;
 use ic_args::table::MAX_STEPS;
 use ic_causes::{NotedOutput, Notes};
@@ -65,20 +65,20 @@ fn processors<T: Threads>(threads: &T) -> u32
 
 /// Reduces the system on standard input in place, within these limits of its text and these bounds, and prints what is
 /// reached, as far as that is wanted. Figures, a stuck pair and a circle are told on standard error, and how far a long
-/// reduction has come. What is to be known of rounds is told with the figures, and written to a file.
+/// reduction has come. What is to be known of rounds is told with the figures, and written where the profile stands.
 pub(crate) fn reduce<T: Threads + Sync, R: Read>(
     rt: &HostRuntime,
     threads: &T,
     limits: Limits,
     bounds: Bounds,
     wanted: Wanted,
-    profiled: Profiled<'_>,
+    profile: &mut Profile<'_, '_>,
     input: &mut Opened<R>,
     notes: &Notes,
     told: &mut Vec<u8>,
 ) -> Result<(), Failure> {
     let begun = Instant::now(rt).ok();
-    let watching = Watching::of_rounds(rt, profiled.is_wanted());
+    let watching = Watching::of_rounds(rt, profile.is_wanted());
     let mut output = WipedFirst::watching(&watching, NotedOutput::new(io::writer(rt), notes));
     let reduced = reduce_and_print(
         rt,
@@ -94,7 +94,7 @@ pub(crate) fn reduce<T: Threads + Sync, R: Read>(
     watching.wipe();
     let outcome = reduced.map_err(Failure::Stream)?;
     let time = time_since(rt, begun);
-    let put = put_profile(rt, profiled, &outcome, notes, told);
+    let put = profile.put(rt, &outcome, notes, told);
     let shares = watching.take_shares(rt.alloc());
     let ended = tell_end(rt, &outcome, None, time, wanted, &shares, bounds.nodes);
     put?;
