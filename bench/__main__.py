@@ -76,12 +76,12 @@ def figures(bench, row, options):
         yield f"{seconds:.4f}"
         if options.instructions:
             yield f"{bench.instructions(program, row) / 1e6:.1f}"
-        yield f"{count / seconds:,.0f}" if count else "-"
+        yield f"{count / seconds:,.0f}" if count and seconds else "-"
         if tried[1:] != first[0][1:]:
             yield "answers otherwise"
     if len(programs) > len(options.program):
-        ratios = [min(it) for it in zip(*took)] if options.least else None
-        yield f"{ratios[0] / ratios[-1] if ratios else statistics.median(it[0] / it[-1] for it in took):.2f}"
+        turns = [[min(it) for it in zip(*took)]] if options.least else took
+        yield f"{statistics.median(it[0] / (it[-1] or 1e-6) for it in turns):.2f}"
     elif options.plain:
         yield from ["-"] * (3 + options.instructions)
     if options.guard:

@@ -34,7 +34,7 @@ class Bench(Trial):
         command = ["make", "-s", "bench", f"WITH={words}"]
         ran = subprocess.run(command, cwd=self.room, stdin=subprocess.DEVNULL, capture_output=True, text=True, timeout=120)
         self.equals(" ".join(command), "status and standard error", (0, ""), (ran.returncode, ran.stderr))
-        return [re.split(r" {2,}", it.strip()) for it in ran.stdout.splitlines() if re.match(r"[a-z]+: ", it)]
+        return [re.split(r" {2,}", it.strip()) for it in ran.stdout.splitlines() if re.match(r"[a-z][a-z0-9 ]*: ", it)]
 
     def test_each_row_is_printed_with_its_seconds_and_the_interactions_that_are_told(self):
         found = self.figures("--size 0.01 --times 1")
@@ -51,7 +51,7 @@ class Bench(Trial):
         self.equals("make bench", "the rows", wanted, [it[0] for it in found])
         self.equals("make bench", "whether several threads and large texts are among them", (5, True), (sum("large" in it for it in wanted), any(it.startswith("by 4 threads") for it in wanted)))
         for what, *cells in found:
-            self.equals(what, "whether it has figures", True, all(re.fullmatch(r"[\d,.]+", it) for it in cells))
+            self.equals(what, "whether it has figures", True, all(re.fullmatch(r"[\d,.]+|-", it) for it in cells))
 
     def test_texts_of_rows_are_written(self):
         command = [sys.executable, TOP / "bench", PROGRAM, "--write", self.room / "texts", "--size", "0.01", "--only", "reduce"]
