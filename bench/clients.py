@@ -14,7 +14,7 @@ import tempfile
 import time
 from pathlib import Path
 
-from systems import ADD, loops
+from systems import ADD, growing, loops
 
 IN_MEMORY = "/dev/shm" if os.access("/dev/shm", os.W_OK) else None
 LISTEN = Path(__file__).resolve().parent.parent / "listen"
@@ -29,8 +29,9 @@ SLOWER = 5_000
 # How many lines a client sends at once, and how many clients do, so that each line is a change.
 AT_ONCE = 10
 
-# What is made by several threads: jobs, pairs of each, and rounds of each.
-LAPS = ((32, 1_000, 125), (32, 100, 625), (32, 30, 625), (1, 1, 100_000))
+# What is made by several threads: jobs, the pairs and the system of each, and its rounds.
+LAPS = [(32, f"{it:,}", loops(it), rounds) for it, rounds in ((1_000, 125), (100, 625), (30, 625))]
+LAPS += [(32, "1 that grows from 4,000 nodes", growing(4_000), 250), (1, "1", loops(1), 100_000)]
 
 
 class Client:
@@ -112,12 +113,12 @@ def burst(server):
     return took
 
 
-def laps(program, folder, workers, jobs, pairs, rounds):
+def laps(program, folder, workers, jobs, system, rounds):
     """How many seconds a serving takes with its submits."""
     disk = f"{folder}/jobs.disk"
     Path(disk).unlink(missing_ok=True)
     subprocess.run([program, "create", "--disk", disk], check=True)
-    lines = [f"submit j{it} {loops(pairs)}" for it in range(jobs)] + ["run 1000"] * (jobs * rounds // 1000)
+    lines = [f"submit j{it} {system}" for it in range(jobs)] + ["run 1000"] * (jobs * rounds // 1000)
     command = [program, "serve", "--disk", disk, "--every", "1000000", "--workers", str(workers)]
     began = time.monotonic()
     subprocess.run(command, input="\n".join(lines) + "\n", stdout=subprocess.DEVNULL, check=True, text=True)
@@ -156,10 +157,10 @@ def median_of(options, folder, group, shim, measured):
 def of_laps(options, folder):
     """Milliseconds of servings."""
     head("jobs, pairs of each, rounds of each", *(f"{it} workers" for it in options.workers))
-    for jobs, pairs, rounds in LAPS:
+    for jobs, pairs, system, rounds in LAPS:
         rounds = max(1000 // jobs, int(rounds * options.size))
-        found = [statistics.median(laps(options.program, folder, it, jobs, pairs, rounds) for _ in range(options.turns)) for it in options.workers]
-        row(f"{jobs}, {pairs:,}, {rounds:,}", *(f"{1000 * it:,.0f}" for it in found))
+        found = [statistics.median(laps(options.program, folder, it, jobs, system, rounds) for _ in range(options.turns)) for it in options.workers]
+        row(f"{jobs}, {pairs}, {rounds:,}", *(f"{1000 * it:,.0f}" for it in found))
 
 
 def main():

@@ -48,6 +48,11 @@ def loops(count):
     return f"{LOOP} <|{','.join(f'A(x{i})=B(x{i})' for i in range(1, count + 1))}>"
 
 
+def growing(nodes):
+    """One pair that fires in every round and leaves a node more, beside so many nodes at first."""
+    return f"{{A(B(x),S(y))><B(A(x,y))}} <{'S(' * nodes}r{')' * nodes}|A(x,r)=B(x)>"
+
+
 def lines(*parts):
     return "".join(f"{line}\n" for part in parts for line in part)
 

@@ -76,7 +76,7 @@ class Bench(Trial):
         disks = ["in memory", *["in memory, syncs of 5 ms more"] * HAS_COMPILER, "on this disk"]
         wanted = ["disk", *(it for it in disks for _ in range(2)), "jobs, pairs of each, rounds of each"]
         self.equals("make bench-clients", "what the rows begin with", wanted, [it[0] for it in found[: len(wanted)]])
-        self.equals("make bench-clients", "how many rows of laps there are", 4, len(found) - len(wanted))
+        self.equals("make bench-clients", "how many rows of laps there are", 5, len(found) - len(wanted))
         for cells in found[1 : len(wanted) - 1] + found[len(wanted) :]:
             self.equals(cells, "whether each cell has a figure", True, all(re.fullmatch(r"[\d,.]+", it) for it in cells[-2:]))
 

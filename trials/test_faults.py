@@ -326,13 +326,12 @@ class Faults(Stops):
         calls = self.served(LAP, ("once", "on"), "thread", words=("--workers", "4"), may_go_well=True)
         self.equals("a lap by 4 workers", "threads", 3, calls)
 
-    def test_jobs_of_1000_equations_and_more_together_are_made_by_as_many_threads_as_said(self):
-        """Rounds of fewer, of one job, one at a time, or with more than 64 words for each equation are made by the thread that serves.
-        The shim counts the threads."""
+    def test_jobs_with_enough_work_are_made_by_as_many_threads_as_said(self):
+        """Where a run asks for less, of one job, or for one round, the thread that serves makes the rounds. The shim counts the threads."""
         disk = self.room / "jobs.disk"
-        two = [((("a", 1), ("b", 1)), it) for it in ((1, 2), (499, 2), (500, 2), (1024, 2), (1024, 1))]
+        two = [((("a", 1), ("b", 1)), it) for it in ((1, 2), (444, 2), (445, 2), (1024, 2), (1024, 1))]
         large = tuple((f"j{it}", 7000) for it in range(32))
-        for jobs, (count, asked) in [*two, (large, (40, 2)), (large[:20], (200, 2))]:
+        for jobs, (count, asked) in [*two, (large, (1, 2)), (large, (100, 2)), (large[:20], (200, 2))]:
             for workers in (1, 2, 7, 64):
                 put(disk, slot(1, EMPTY))
                 nets = [(name, "C(" * (nodes - 1) + "D" + ")" * (nodes - 1)) for name, nodes in jobs]
@@ -340,7 +339,7 @@ class Faults(Stops):
                 counts = shimmed(f"thread {10**9} once", self.log)
                 ran = self.serves(disk, lines, [*["accepted"] * len(jobs), f"ran {asked}"], "--workers", workers, env=counts)
                 threads = next(it.at for it in noted(self.log) if it.kind == "C")
-                is_lap = count * len(jobs) >= 1000 and asked > 1 and jobs[0][1] <= 60 * count
+                is_lap = asked > 1 and asked * (18 * count + jobs[0][1]) >= 16_000
                 made = workers - 1 if is_lap else 0
                 self.equals(ran.command, f"threads for {len(jobs)} jobs of {count} equations, and {asked} rounds", made, threads)
 

@@ -1,5 +1,5 @@
 """Workers stand from a serving's first lap on, for all laps, and are joined at its end: a lap is the next rounds of several
-jobs with 2,000 equations or more together. Those of an attendance's runner stand from its beginning to its end."""
+jobs that have enough work together. Those of an attendance's runner stand from its beginning to its end."""
 
 import signal
 import time

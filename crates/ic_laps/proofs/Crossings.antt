@@ -41,7 +41,7 @@ Task_send : IsSend Task.the_field.row
 Task_send = search (Flight_send, sendable, crosses) depth 40
 
 Done_send : IsSend Done.the_field.row
-Done_send = search (Played_send, sendable, crosses) depth 40
+Done_send = search (Played_send, Flight_send, sendable, crosses) depth 40
 
 pub Post_send : IsSend Post.the_field.row
 Post_send = search (Task_send, Done_send, sendable, crosses) depth 80 fits 100000

@@ -1,23 +1,30 @@
-//! Workers that stand ready, and the laps that they make.
+//! Workers that stand ready, and the ends of the lines between them and who asks.
 
 ghost use Rattle.std.specs.Prelude.{◌≡◌, ◌+◌, ◌≤◌, IfOk, vec_len, vec_capacity};
 
-use crate::limits::{LAP_WORDS, MAX_FLIGHTS};
+use crate::limits::{MOST_TASKS, ROOM};
+use crate::shares::Shares;
 use crate::tasks::{Done, Post, Task, stand};
 use crossbeam_channel::{Receiver, Sender, bounded};
 use ic_flat_round::Workspace;
-use ic_flights::{Flight, Played};
+use ic_flights::Flight;
 use std::alloc::{AllocError, Global};
 use std::sync::Wait;
 use std::thread::{self, JoinHandle, Threads};
 
-/// Workers in threads of their own, and the ends of the two lines between them and who asks.
+/// Workers in threads of their own, and the ends of the two lines between them and who asks. No line is ever full, so nobody
+/// waits to send.
 #[derive(Drop)]
 pub(crate) struct Hands {
     tasks: Sender<Task>,
     waiting: Receiver<Task>,
     done: Receiver<Done>,
     threads: Vec<JoinHandle<()>>,
+    /// What this thread has made.
+    shares: Shares,
+    /// How many tasks went out, and how many of them came to nothing yet.
+    sent: u64,
+    out: usize,
 }
 
 impl Hands {
@@ -27,8 +34,8 @@ impl Hands {
         alloc: Global,
         workers: usize,
     ) -> Result<Hands, AllocError> {
-        let (tasks, waiting) = bounded(alloc, MAX_FLIGHTS)?;
-        let (returned, done) = bounded(alloc, MAX_FLIGHTS)?;
+        let (tasks, waiting) = bounded(alloc, MOST_TASKS)?;
+        let (returned, done) = bounded(alloc, MOST_TASKS)?;
         let posts = posts(alloc, workers, &waiting, &returned)?;
         let mut threads = Vec::with_capacity(alloc, posts.len())?;
         start_each(rt, alloc, posts, &mut threads);
@@ -37,65 +44,70 @@ impl Hands {
             waiting,
             done,
             threads,
+            shares: Shares::new(alloc),
+            sent: 0,
+            out: 0,
         })
     }
 
-    /// So many rounds of each flight, the last one first, or as many of them as can be made. This thread works too.
-    pub fn make<R: Wait>(
-        &self,
+    /// Sends a task, unless too many are out. Answers its number.
+    pub fn send<R: Wait>(
+        &mut self,
+        rt: &R,
+        flight: Flight,
+        rounds: usize,
+        words: usize,
+    ) -> Option<u64> {
+        if self.out >= MOST_TASKS {
+            return None;
+        }
+        let number = self.sent.wrapping_add(1);
+        let task = Task {
+            number,
+            flight,
+            rounds,
+            words,
+        };
+        self.tasks.send(rt, task).ok()?;
+        self.sent = number;
+        self.out = self.out.saturating_add(1);
+        Some(number)
+    }
+
+    /// What came of a task. Where nothing came yet, this thread does the next one, or waits. None where no task is out.
+    pub fn next_done<R: Wait>(
+        &mut self,
         rt: &R,
         alloc: Global,
-        flights: Vec<Flight>,
-        rounds: usize,
         workspace: &mut Workspace,
-    ) -> Result<Vec<Vec<Played>>, AllocError> {
-        let mut made = nothing(alloc, flights.len())?;
-        let sent = self.send(rt, flights, rounds);
-        let mut left = sent;
-        for _ in 0..sent {
-            let Ok(task) = self.waiting.try_recv(rt) else {
-                break;
-            };
-            put(&mut made, task.done(alloc, workspace));
-            left = left.saturating_sub(1);
+    ) -> Option<Done> {
+        if self.out == 0 {
+            return None;
         }
-        self.gather(rt, left, &mut made);
-        Ok(made)
-    }
-
-    /// Sends a task for each flight. Answers how many went out.
-    fn send<R: Wait>(&self, rt: &R, flights: Vec<Flight>, rounds: usize) -> usize {
-        let words = LAP_WORDS / flights.len().max(1);
-        let mut sent: usize = 0;
-        for (place, flight) in flights.into_iter().enumerate() {
-            let task = Task {
-                place,
-                flight,
-                rounds,
-                words,
-            };
-            if self.tasks.send(rt, task).is_err() {
-                return sent;
-            }
-            sent = sent.saturating_add(1);
+        self.out = self.out.saturating_sub(1);
+        if let Ok(done) = self.done.try_recv(rt) {
+            return Some(done);
         }
-        sent
-    }
-
-    /// Takes what came of so many tasks.
-    fn gather<R: Wait>(&self, rt: &R, count: usize, made: &mut Vec<Vec<Played>>) {
-        for _ in 0..count {
-            let Ok(done) = self.done.recv(rt) else {
-                return;
-            };
-            put(made, done);
+        match self.waiting.try_recv(rt) {
+            Ok(task) => Some(task.done(alloc, workspace, &mut self.shares)),
+            Err(_) => self.done.recv(rt).ok(),
         }
     }
 
-    /// Ends the workers, and joins their threads.
-    pub fn finish<R: Threads>(self, rt: &R) {
-        let Hands { tasks, threads, .. } = self;
+    /// Ends the workers, and joins their threads. Tasks that nobody has begun are left.
+    pub fn finish<R: Threads + Wait>(self, rt: &R) {
+        let Hands {
+            tasks,
+            waiting,
+            threads,
+            ..
+        } = self;
         drop(tasks);
+        for _ in 0..MOST_TASKS {
+            if waiting.try_recv(rt).is_err() {
+                break;
+            }
+        }
         for thread in threads {
             thread.join(rt);
         }
@@ -114,6 +126,7 @@ fn posts(
         posts.push(Post {
             tasks: waiting.clone()?,
             done: returned.clone()?,
+            room: Vec::with_capacity(alloc, ROOM)?,
         })?;
     }
     Ok(posts)
@@ -134,22 +147,5 @@ fn start_each<R: Threads + Wait + Copy + Send + 'static>(
             return;
         };
         threads.push_reserved(thread);
-    }
-}
-
-/// No rounds of so many flights.
-fn nothing(alloc: Global, count: usize) -> Result<Vec<Vec<Played>>, AllocError> {
-    let mut made = Vec::with_capacity(alloc, count)?;
-    for _ in 0..count {
-        made.push(Vec::new(alloc))?;
-    }
-    Ok(made)
-}
-
-/// Puts what came of a task in its place.
-fn put(all: &mut Vec<Vec<Played>>, done: Done) {
-    let Done { place, made } = done;
-    if place < all.len() {
-        all[place] = made;
     }
 }

@@ -5,11 +5,15 @@ ghost use Rattle.ic_flights.specs.Played.{round_of};
 ghost use Rattle.ic_pool.specs.Played.{played};
 
 use crate::hands::Hands;
-use crate::limits::{MAX_FLIGHTS, MAX_WORKERS};
+use crate::lanes::{Lane, lanes_for};
+use crate::limits::{LAP_WORDS, MAX_FLIGHTS, MAX_WORKERS, MOST_TASKS};
 use crate::rounds::is_round_of;
+use crate::tasks::Done;
 use ic_flat_round::Workspace;
 use ic_flights::{Flight, Played};
+use ic_rules::JobName;
 use std::alloc::{AllocError, Global};
+use std::mem;
 use std::sync::Wait;
 use std::thread::Threads;
 
@@ -18,14 +22,13 @@ use std::thread::Threads;
 #[derive(Drop)]
 pub struct Laps {
     hands: Option<Hands>,
-    /// The rounds of each flight that wait, the next one last.
-    made: Vec<Vec<Played>>,
-    /// Where the flight stands that is asked for next, if it is the one after the last one.
+    lanes: Vec<Lane>,
+    /// The lane that is asked for next, if it is the one after the last one.
     next: usize,
-    /// How many rounds wait.
-    waiting: usize,
-    /// How often a round was asked for since one was found.
+    /// How often a round was asked for of a job without a lane.
     misses: usize,
+    /// How many rounds a task has at most.
+    rounds: usize,
 }
 
 impl Laps {
@@ -33,117 +36,170 @@ impl Laps {
     pub fn new(alloc: Global) -> Laps {
         Laps {
             hands: None,
-            made: Vec::new(alloc),
+            lanes: Vec::new(alloc),
             next: 0,
-            waiting: 0,
             misses: 0,
+            rounds: 0,
         }
     }
 
-    /// Whether no round waits that is asked for: none is there, or none was found as often as there were flights.
+    /// Whether a lap may be begun: no job has a lane, or rounds of jobs without one were asked for as often as there are lanes.
     pub fn is_spent(&self) -> bool {
-        self.waiting == 0 || self.misses >= self.made.len()
+        self.misses >= self.lanes.len()
     }
 
-    /// Makes so many rounds of each flight, by so many threads, this one among them. What waited before is dropped. Where
-    /// memory runs out, or a round can't be made, fewer rounds wait, or none: who asks for one that doesn't makes it.
+    /// Begins a lap: has rounds of each flight made, at most so many in a task, by so many threads, this one among them. What
+    /// waits of these jobs stays, and else is dropped. `wanted` rounds are asked for at most. Where memory runs out, or a round
+    /// can't be made, fewer rounds wait, or none: who asks for one that doesn't makes it.
     pub fn make<R: Threads + Wait + Copy + Send + 'static>(
         &mut self,
         rt: &R,
         alloc: Global,
         mut flights: Vec<Flight>,
         rounds: usize,
+        wanted: u64,
         workers: usize,
-        workspace: &mut Workspace,
     ) {
-        self.made.clear();
         self.next = 0;
-        self.waiting = 0;
         self.misses = 0;
+        self.rounds = rounds;
         flights.truncate(MAX_FLIGHTS);
         // Without memory no round waits.
-        let _ = self.try_make(rt, alloc, flights, rounds, workers, workspace);
+        let _ = self.begin(rt, alloc, flights, wanted, workers);
     }
 
-    fn try_make<R: Threads + Wait + Copy + Send + 'static>(
+    fn begin<R: Threads + Wait + Copy + Send + 'static>(
         &mut self,
         rt: &R,
         alloc: Global,
         flights: Vec<Flight>,
-        rounds: usize,
+        wanted: u64,
         workers: usize,
-        workspace: &mut Workspace,
     ) -> Result<(), AllocError> {
-        let hands = match self.hands.take() {
-            Some(hands) => hands,
-            None => Hands::start(rt, alloc, workers.min(MAX_WORKERS).saturating_sub(1))?,
-        };
-        let made = hands.make(rt, alloc, flights, rounds, workspace);
-        self.hands = Some(hands);
-        self.made = made?;
-        self.waiting = count_all(&self.made);
+        let old = mem::replace(&mut self.lanes, Vec::new(alloc));
+        if self.hands.is_none() {
+            let workers = workers.min(MAX_WORKERS).saturating_sub(1);
+            self.hands = Some(Hands::start(rt, alloc, workers)?);
+        }
+        self.lanes = lanes_for(alloc, flights, old)?;
+        for place in 0..self.lanes.len() {
+            self.send(rt, place, wanted);
+        }
         Ok(())
     }
 
-    /// The round of a flight, if it waits. Those of the flight after the last one are looked at first.
-    pub fn take(&mut self, flight: &Flight) -> Option<Played>
+    /// Has the rounds of a lane made that come after those which wait, unless they are made already. Of all lanes together no
+    /// more rounds wait than are wanted.
+    fn send<R: Wait>(&mut self, rt: &R, place: usize, wanted: u64) {
+        let count = self.lanes.len().max(1);
+        let (Some(hands), Some(lane)) = (self.hands.as_mut(), self.lanes.get_mut(place)) else {
+            return;
+        };
+        let most = (wanted / count as u64).saturating_sub(lane.waiting() as u64);
+        let rounds = most.min(self.rounds as u64) as usize;
+        if rounds > 0 && lane.is_ready() {
+            lane.send(rt, hands, rounds, LAP_WORDS / 2 / count);
+        }
+    }
+
+    /// The round of a flight, if it was made, or is being made: then this thread works at tasks, or waits. `wanted` rounds are
+    /// asked for at most, this one among them.
+    pub fn take<R: Wait>(
+        &mut self,
+        rt: &R,
+        alloc: Global,
+        flight: &Flight,
+        wanted: u64,
+        workspace: &mut Workspace,
+    ) -> Option<Played>
         ensures round { IfSome result (λ made. made ≡ round_of flight.now) }
         ensures answer { IfSome result (λ made. Ok made ≡ played flight.now) }
     {
-        if self.waiting == 0 {
+        let Some(place) = self.lane_of(flight.name()) else {
+            self.misses = self.misses.saturating_add(1);
             return None;
+        };
+        self.await_round(rt, alloc, place, workspace);
+        self.send(rt, place, wanted);
+        self.await_round(rt, alloc, place, workspace);
+        let made = self.take_at(place, flight);
+        if made.is_none() {
+            self.end(place);
         }
-        let count = self.made.len();
-        for place in (self.next..count).chain(0..self.next) {
-            if self.is_of(place, flight) {
-                return self.take_at(place, flight);
+        made
+    }
+
+    /// Where the lane of a job stands: the one after the last one is looked at first.
+    fn lane_of(&self, name: JobName) -> Option<usize> {
+        let next = self.next.min(self.lanes.len());
+        for place in (next..self.lanes.len()).chain(0..next) {
+            if let Some(lane) = self.lanes.get(place)
+                && lane.name == name
+            {
+                return Some(place);
             }
         }
-        self.misses = self.misses.saturating_add(1);
         None
     }
 
-    /// Whether the next round that waits at a place was made for the job of a flight.
-    fn is_of(&self, place: usize, flight: &Flight) -> bool {
-        match self.made.get(place) {
-            Some(made) => match made.last() {
-                Some(next) => next.name() == flight.name(),
-                None => false,
-            },
-            None => false,
+    /// Takes what comes of tasks, until a round of a lane waits or none is being made.
+    fn await_round<R: Wait>(
+        &mut self,
+        rt: &R,
+        alloc: Global,
+        place: usize,
+        workspace: &mut Workspace,
+    ) {
+        for _ in 0..MOST_TASKS {
+            let (Some(hands), Some(lane)) = (self.hands.as_mut(), self.lanes.get_mut(place)) else {
+                return;
+            };
+            if !lane.is_awaited() {
+                lane.turn();
+                return;
+            }
+            match hands.next_done(rt, alloc, workspace) {
+                Some(done) => self.put(done),
+                None => return,
+            }
         }
     }
 
-    /// Takes the next round that waits at a place. It is dropped if it isn't the round of the flight.
+    /// Gives what came of a task to its lane. It is dropped if no lane awaits it.
+    fn put(&mut self, done: Done) {
+        for lane in self.lanes.iter_mut() {
+            if lane.has_out(done.number) {
+                lane.put(done);
+                return;
+            }
+        }
+    }
+
+    /// Takes the next round that waits in a lane. It is dropped if it isn't the round of the flight.
     fn take_at(&mut self, place: usize, flight: &Flight) -> Option<Played>
         ensures round { IfSome result (λ made. made ≡ round_of flight.now) }
         ensures answer { IfSome result (λ made. Ok made ≡ played flight.now) }
     {
-        let made = self.made.get_mut(place)?.pop()?;
-        self.waiting = self.waiting.saturating_sub(1);
+        let made = self.lanes.get_mut(place)?.pop()?;
         if !is_round_of(&made, flight) {
-            self.misses = self.misses.saturating_add(1);
             return None;
         }
-        self.misses = 0;
         self.next = place.saturating_add(1);
         Some(made)
     }
 
+    /// Ends a lane that has no round for its job, or another one than the job's next.
+    fn end(&mut self, place: usize) {
+        if place < self.lanes.len() {
+            self.lanes.remove(place);
+        }
+    }
+
     /// Ends the workers that stand, and joins their threads.
-    pub fn finish<R: Threads>(self, rt: &R) {
+    pub fn finish<R: Threads + Wait>(self, rt: &R) {
         let Laps { hands, .. } = self;
         if let Some(hands) = hands {
             hands.finish(rt);
         }
     }
-}
-
-/// How many rounds there are of all flights.
-fn count_all(made: &[Vec<Played>]) -> usize {
-    let mut count: usize = 0;
-    for each in made {
-        count = count.saturating_add(each.len());
-    }
-    count
 }

@@ -7,9 +7,11 @@
 #![tactic(auto)]
 
 mod hands;
+mod lanes;
 mod laps;
 mod limits;
 mod rounds;
+mod shares;
 mod tasks;
 
 pub use laps::Laps;

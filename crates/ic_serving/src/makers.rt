@@ -6,7 +6,7 @@ ghost use Rattle.ic_pool.specs.Played.{played};
 ghost use Rattle.ic_pool.specs.PoolFault.{Answers};
 ghost use Rattle.ic_pool.specs.Workers.{ByWorkers, played_by};
 
-use crate::limits::{ENOUGH, ENOUGH_EACH, MOST_ROUNDS, MOST_WORDS};
+use crate::limits::{ENOUGH, ENOUGH_AT_ONCE, ENOUGH_EACH, MOST_ROUNDS, TIMES, WORDS_EACH};
 use ic_book::Book;
 use ic_disk::Disk;
 use ic_flat_round::Workspace;
@@ -42,7 +42,7 @@ impl Makers {
         self.wanted = rounds;
     }
 
-    /// Makes a lap of the jobs that are due from a place on, where no round waits and several threads gain by it.
+    /// Begins a lap of the jobs that are due from a place on, where one may begin and several threads gain by it.
     pub(crate) fn look_ahead<T: Threads + Wait + Copy + Send + 'static, D: Disk>(
         &mut self,
         rt: &T,
@@ -56,96 +56,108 @@ impl Makers {
         }
         let load = Load::of(book.table().jobs());
         let rounds = load.rounds(self.wanted);
-        if !load.is_worth_it(rounds) {
+        if !load.is_worth_it(rounds, self.wanted) {
             return;
         }
         let most = self.wanted.min(MAX_JOBS as u64) as usize;
         // Without memory no round is made ahead.
         if let Ok(flights) = flights_from(alloc, book, after, most) {
             self.laps
-                .make(rt, alloc, flights, rounds, workers, &mut self.workspace);
+                .make(rt, alloc, flights, rounds, self.wanted, workers);
         }
     }
 
-    /// The round of a flight: the one that was made ahead, or else this thread makes it. It is the same round.
-    pub fn play(&mut self, alloc: Global, flight: &Flight) -> Result<Played, PoolFault>
+    /// The round of a flight: the one that is made ahead, or else this thread makes it. It is the same round.
+    pub fn play<T: Wait>(
+        &mut self,
+        rt: &T,
+        alloc: Global,
+        flight: &Flight,
+    ) -> Result<Played, PoolFault>
         ensures answer { Answers result (played flight.now) }
         ensures round { IfOk result (λ played. played ≡ round_of flight.now) }
     {
         ic_pool::laws::refusals_come_in_order();
-        self.wanted = self.wanted.saturating_sub(1);
-        if let Some(made) = self.laps.take(flight) {
+        let wanted = self.wanted;
+        self.wanted = wanted.saturating_sub(1);
+        if let Some(made) = self
+            .laps
+            .take(rt, alloc, flight, wanted, &mut self.workspace)
+        {
             return Ok(made);
         }
         play_in(alloc, flight, &mut self.workspace)
     }
 
     /// Ends the workers that stand, and joins their threads.
-    pub fn finish<T: Threads>(self, rt: &T) {
+    pub fn finish<T: Threads + Wait>(self, rt: &T) {
         let Makers { laps, .. } = self;
         laps.finish(rt);
     }
 }
 
-/// How many jobs run, and how many equations and words they have together.
+/// How many jobs run, how many words they have together, and what a round of each takes, in words.
 #[derive(Clone, Copy)]
 struct Load {
     running: usize,
-    equations: usize,
     words: usize,
+    each: usize,
 }
 
 impl Load {
     fn of(jobs: &[Job]) -> Load {
-        let (mut running, mut equations, mut words) = (0_usize, 0_usize, 0_usize);
+        let (mut running, mut words, mut work) = (0_usize, 0_usize, 0_usize);
         for job in jobs {
             if job.state() == State::Running {
                 let config = job.config();
+                let len = config.words().len();
                 running = running.saturating_add(1);
-                equations = equations.saturating_add(config.equations_len());
-                words = words.saturating_add(config.words().len());
+                words = words.saturating_add(len);
+                work = work
+                    .saturating_add(len)
+                    .saturating_add(config.equations_len().saturating_mul(WORDS_EACH));
             }
         }
         Load {
             running,
-            equations,
             words,
+            each: work / running.max(1),
         }
     }
 
-    /// How many rounds of each job a lap makes, where so many are wanted of all: fewer of large nets, since those that wait
-    /// are held, and a line waits for the lap.
+    /// How many rounds of each job are handed on at once, where so many are wanted of all: fewer of large nets, since those that
+    /// wait are held, and a line waits for them.
     fn rounds(self, wanted: u64) -> usize {
-        let each = wanted / (self.running.max(1) as u64);
-        let most = (LAP_WORDS / self.words.max(1)).min(MOST_ROUNDS).max(1);
+        let each = wanted / TIMES / (self.running.max(1) as u64);
+        let most = (LAP_WORDS / 2 / self.words.max(1)).min(MOST_ROUNDS).max(1);
         each.min(most as u64).max(1) as usize
     }
 
-    /// Whether several threads gain by a lap of so many rounds: at least two jobs run, with enough equations together and for
-    /// each of them, and with few words for each equation. Where rounds copy large nets and do little else, threads lose time
-    /// by the memory that one takes and another gives back, and where they do next to nothing, by handing them on.
-    fn is_worth_it(self, rounds: usize) -> bool {
+    /// Whether several threads gain by a lap, where so many rounds are handed on at once, and so many are wanted of all.
+    fn is_worth_it(self, rounds: usize, wanted: u64) -> bool {
         self.running > 1
-            && self.equations.saturating_mul(rounds) >= ENOUGH
-            && self.equations / self.running >= ENOUGH_EACH
-            && self.words / MOST_WORDS <= self.equations
+            && self.each >= ENOUGH_EACH
+            && self.each.saturating_mul(rounds) >= ENOUGH_AT_ONCE
+            && (self.each as u64).saturating_mul(wanted) >= ENOUGH
     }
 }
 
-/// The flights that are due from a place on, one for each job, at most so many.
+/// The flights that are due from a place on, and then from the first place on, one for each job, at most so many.
 fn flights_from<D: Disk>(
     alloc: Global,
     book: &Book<D>,
     after: usize,
     most: usize,
 ) -> Result<Vec<Flight>, AllocError> {
-    let mut flights = Vec::with_capacity(alloc, most)?;
+    let mut flights: Vec<Flight> = Vec::with_capacity(alloc, most)?;
     let mut place = after;
     for _ in 0..most {
         let Ok(Some(flight)) = book.due(place) else {
             break;
         };
-        if flight.place() < place {
+        if let Some(first) = flights.first()
+            && first.place() == flight.place()
+        {
             break;
         }
         place = flight.place().saturating_add(1);

@@ -126,12 +126,13 @@ pub fn make_round<T: Threads + Wait + Copy + Send + 'static, D: Disk>(
     };
     make_room(alloc, book)?;
     let place = flight.place();
-    land_or_halt(alloc, book, &flight, makers)?;
+    land_or_halt(rt, alloc, book, &flight, makers)?;
     Ok(Some(place))
 }
 
 /// Makes a round that the book awaits and lands it, or halts its job where it can't be made.
-fn land_or_halt<D: Disk>(
+fn land_or_halt<T: Wait, D: Disk>(
+    rt: &T,
     alloc: Global,
     book: &mut Book<D>,
     flight: &Flight,
@@ -155,7 +156,7 @@ fn land_or_halt<D: Disk>(
     book.facts();
     ic_pool::laws::refused_flights_are_blocked();
     ic_pool::laws::workers_answer_so();
-    let played = match makers.play(alloc, flight) {
+    let played = match makers.play(rt, alloc, flight) {
         Ok(played) => played,
         Err(fault) => {
             if !fault.is_of_flight() {
