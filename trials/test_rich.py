@@ -4,6 +4,7 @@ import random
 import re
 import resource
 
+import patterns
 import rich
 from program import IN_MEMORY, SEED, TOP, Trial, run
 
@@ -59,7 +60,7 @@ REFUSED = {
     "twice left": ("{A(x) >< B(long,x) => long~C} <|>", (1, 17), "left of => each name stands once: x stands there twice"),
     "once": ("{A(x) >< B => x~C(more_1)} <|>", (1, 19), "a name that isn't left of => stands right of it twice: more_1 stands once"),
     "thrice": ("{A(x) >< B => x~C(y,y,y)} <|>", (1, 23), "a name that isn't left of => stands right of it twice: y stands three times"),
-    "an agent left": ("{A(S(x)) >< B => x~C} <|>", (1, 4), "left of => the arguments of both symbols are names, and one is looked for here"),
+    "no argument": ("{A(~x) >< B => x~C} <|>", (1, 4), "left of => an argument is a name, or a pattern as S(x): one is looked for here"),
     "no symbol": ("{a(x) >< B => x~C} <|>", (1, 2), "a rule by => begins as A(x,y) >< B(z): a symbol is looked for here"),
     "no second symbol": ("{A(x) >< => x~C} <|>", (1, 10), "a rule by => begins as A(x,y) >< B(z): a symbol is looked for here"),
     "no meeting": ("{A(x) => x~C} <|>", (1, 7), ">< is looked for here, between the two sides of a rule"),
@@ -224,6 +225,9 @@ class Drawn(Trial):
 
     def drawn_fault(self, draw):
         """A text with one fault, which it is, and its place."""
+        if draw.random() < 0.3:
+            text, kind, at = patterns.faulty_text(draw, WORDS, faulty)
+            return text, kind, place_in(text, at)
         if draw.random() < 0.4:
             _, text = rich.drawn_shorthands(draw, SHORT_SYMBOLS, WORDS, draw.randint(0, 3))
             shown = re.sub(r"#[^\n]*", lambda it: " " * len(it[0]), text)
@@ -245,7 +249,7 @@ class Drawn(Trial):
             self.equals("check", "status, and how many faults are told", (1, 500), (ran.status, ran.out.count(b"\n")))
             for number, ((text, kind, (line, column)), told) in enumerate(zip(drawn, ran.out.decode().splitlines())):
                 self.equals(text, f"the place of {kind}: {told}", f"{number}.rich:{line}:{column}: bad syntax: ", told[: told.index("syntax: ") + 8])
-                self.equals(text, f"what is told of {kind}: {told}", True, TELLS[kind] in told)
+                self.equals(text, f"what is told of {kind}: {told}", True, TELLS.get(kind, kind) in told)
 
     def test_texts_with_shorthands_reduce_to_the_same(self):
         draw = random.Random(f"{SEED} reduced")

@@ -12,8 +12,7 @@ use crate::fault::{ExpandFault, Reason};
 use crate::forms::has_form;
 use crate::writing::expand;
 use ic_rich::{
-    Files, Found, JoinFault, JoinRefusal, Joined, RichFault, Unfolded, Wording, join, sentence,
-    unfold,
+    Files, Found, JoinFault, JoinRefusal, Joined, RichFault, Unfolded, Wording, join, unfold,
 };
 use ic_text::TextFault;
 use std::alloc::{AllocError, AllocFailed, Global};
@@ -132,13 +131,11 @@ fn joined_text(alloc: Global, joined: &Joined) -> Result<Expanded, Unexpanded>
     ensures text { IfOk result (λ out. (plain : List ℕ) × (expanded plain ≡ Ok out.text.items)) }
     ensures refused { IfErr result IsOfForms }
 {
-    let text = joined.text();
-    match unfold(alloc, text) {
+    match unfold(alloc, joined.text()) {
         Ok(written) => unfolded_text(alloc, joined, &written),
         Err(RichFault::Memory) => Err(Unexpanded::Memory),
         Err(RichFault::Refused(reason, at)) => {
-            let words = sentence(alloc, reason, text.split_at(at.min(text.len())).1)?;
-            let refused = joined.refused(alloc, at, &words)?;
+            let refused = joined.refused_for(alloc, reason, at)?;
             Err(of_refusal(refused, form_fault(reason)))
         }
     }

@@ -1,5 +1,6 @@
 //! Why a text isn't unfolded.
 
+use crate::written::Written;
 use std::alloc::{AllocError, AllocFailed};
 
 /// What is amiss at a place.
@@ -9,6 +10,8 @@ pub enum Reason {
     Rule(RuleReason),
     /// The names or equations of a rule by an arrow lead to no plain rule.
     Wire(WireReason),
+    /// Rules with patterns can't be split.
+    Nest(NestReason),
     /// A number, a list, a pair or their declaration isn't written so.
     Shorthand(ShorthandReason),
     /// A `let` isn't written so, or names what it may not.
@@ -57,6 +60,21 @@ pub enum WireReason {
     Meeting,
     /// An equation leads round to itself.
     Circle,
+}
+
+/// What is amiss in rules with patterns.
+#[derive(Clone, Copy, Debug, PartialEq, Eq)]
+pub enum NestReason {
+    /// The patterns of a rule overlap those of another one, which begins at this place.
+    Overlap(usize),
+    /// Of two rules, of which the other one begins at this place, no argument may be looked at first.
+    Unordered(usize),
+    /// A symbol has another number of arguments in an earlier rule.
+    Arity,
+    /// An agent that waits would have too many arguments.
+    Wide,
+    /// A symbol meets itself.
+    Itself,
 }
 
 /// What is amiss in a number, a list, a pair, or their declaration.
@@ -111,6 +129,27 @@ pub enum UseReason {
 }
 
 impl Reason {
+    /// The place of another rule that is told beside it.
+    pub(crate) fn other(self) -> Option<usize> {
+        match self {
+            Reason::Nest(NestReason::Overlap(at) | NestReason::Unordered(at)) => Some(at),
+            _ => None,
+        }
+    }
+
+    /// The same, where the place of the other rule comes from that of a text that is written.
+    pub(crate) fn moved(self, written: &Written) -> Reason {
+        match self {
+            Reason::Nest(NestReason::Overlap(at)) => {
+                Reason::Nest(NestReason::Overlap(written.place_of(at)))
+            }
+            Reason::Nest(NestReason::Unordered(at)) => {
+                Reason::Nest(NestReason::Unordered(written.place_of(at)))
+            }
+            other => other,
+        }
+    }
+
     /// Whether a limit is passed.
     pub fn is_limit(self) -> bool {
         matches!(self, Reason::TooLong)
@@ -137,6 +176,13 @@ impl WireReason {
     /// The refusal at a place.
     pub(crate) fn at(self, place: usize) -> RichFault {
         RichFault::Refused(Reason::Wire(self), place)
+    }
+}
+
+impl NestReason {
+    /// The refusal at a place.
+    pub(crate) fn at(self, place: usize) -> RichFault {
+        RichFault::Refused(Reason::Nest(self), place)
     }
 }
 

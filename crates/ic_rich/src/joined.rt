@@ -1,10 +1,13 @@
 //! A text with the rules of the files that it uses.
 
-use crate::fault::Reason;
-use crate::segments::{Segment, after_blanks, leading_word, part_of};
+use crate::arrows::{has_arrow, has_pattern};
+use crate::fault::{Reason, RichFault};
+use crate::holes::Hole;
+use crate::segments::{Segment, after_blanks, after_meeting, leading_word, part_of, second_of};
 use crate::sentences::sentence;
 use crate::signs::is_line;
 use crate::tokens::tokens_of;
+use crate::unfolding::unfold;
 use crate::uses::{Files, Place, Source, Sources, UseFault, use_at};
 use std::alloc::{AllocError, AllocFailed, Global};
 
@@ -60,7 +63,8 @@ impl<T: Drop> From<AllocFailed<T>> for JoinFault {
     }
 }
 
-/// What a rule or a line of a text is told by: the two symbols of a rule, or all words of a line such as `copy Dup`.
+/// What a rule or a line of a text is told by: the two symbols of a rule, or its sides where these have patterns, or all words of
+/// a line such as `copy Dup`.
 #[derive(Drop)]
 struct Head {
     one: Vec<u8>,
@@ -87,16 +91,32 @@ fn words_of(alloc: Global, part: &[u8]) -> Result<Vec<u8>, AllocError> {
     Ok(words)
 }
 
-/// The symbol that stands second in a rule, or nothing.
-fn second_of(part: &[u8]) -> &[u8] {
-    for (place, byte) in part.iter().enumerate() {
-        if *byte == b'<' {
-            let (_, rest) = part.split_at(place);
-            let (_, rest) = rest.split_at(rest.len().min(1));
-            return leading_word(rest);
+/// What stands before a mark, or all of a part.
+fn before_mark<'t>(part: &'t [u8], mark: &[u8]) -> &'t [u8] {
+    for place in 0..part.len() {
+        if part[place..].starts_with(mark) {
+            return &part[..place];
         }
     }
-    &part[..0]
+    part
+}
+
+/// Whether a side of a rule is a symbol, and names if it has arguments.
+fn is_plain_side(side: &[u8]) -> bool {
+    let is_formed = side.iter().any(|byte| *byte == b'[' || *byte == b'^');
+    let opened = side.iter().filter(|byte| **byte == b'(').count();
+    !is_formed && opened < 2 && !has_pattern(side) && !leading_word(side).is_empty()
+}
+
+/// What the sides of a rule are told by.
+fn sides_of(alloc: Global, part: &[u8]) -> Result<(Vec<u8>, Vec<u8>), AllocError> {
+    let left = before_mark(part, b">".as_slice());
+    let right = before_mark(after_meeting(part), b"=>".as_slice());
+    if has_arrow(part) && !(is_plain_side(left) && is_plain_side(right)) {
+        return Ok((words_of(alloc, left)?, words_of(alloc, right)?));
+    }
+    let (one, other) = (leading_word(part), second_of(part));
+    Ok((one.to_vec(alloc)?, other.to_vec(alloc)?))
 }
 
 /// What a segment of a text is told by.
@@ -112,10 +132,7 @@ fn head_of(
     let (one, other) = if is_line {
         (words_of(alloc, part)?, Vec::new(alloc))
     } else {
-        (
-            leading_word(part).to_vec(alloc)?,
-            second_of(part).to_vec(alloc)?,
-        )
+        sides_of(alloc, part)?
     };
     Ok(Head {
         one,
@@ -238,6 +255,45 @@ impl Joined {
     /// The text with the rules of others.
     pub fn text(&self) -> &[u8] {
         &self.woven.text
+    }
+
+    /// The refusal at a place of it for a reason, with the place of another rule if one is told beside it.
+    pub fn refused_for(
+        &self,
+        alloc: Global,
+        reason: Reason,
+        at: usize,
+    ) -> Result<JoinRefusal, AllocError> {
+        let text = self.text();
+        let (_, rest) = text.split_at(at.min(text.len()));
+        let mut words = sentence(alloc, reason, rest)?;
+        if let Some(other) = reason.other() {
+            put_place(
+                alloc,
+                &self.sources,
+                self.woven.source_of(other),
+                &mut words,
+            )?;
+        }
+        self.refused(alloc, at, &words)
+    }
+
+    /// The holes of its patterns, each with the place of the text that is read at which it is told. One that is refused has none.
+    pub fn holes(&self, alloc: Global) -> Result<Vec<Hole>, AllocError> {
+        let unfolded = match unfold(alloc, self.text()) {
+            Ok(unfolded) => unfolded,
+            Err(RichFault::Memory) => return Err(AllocError),
+            Err(RichFault::Refused(_, _)) => return Ok(Vec::new(alloc)),
+        };
+        let mut holes = Vec::new(alloc);
+        for hole in unfolded.holes() {
+            let place = self.woven.source_of(hole.at);
+            holes.push(Hole {
+                at: told_at(&self.sources, place),
+                words: said_at(alloc, &self.sources, place, &hole.words)?,
+            })?;
+        }
+        Ok(holes)
     }
 
     /// The refusal at a place of it, of which this is said.

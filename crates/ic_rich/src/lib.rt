@@ -1,4 +1,4 @@
-//! Forms of rich texts that stand for others: rules by arrows, numbers, lists, pairs, and terms that `let` names.
+//! Forms of rich texts that stand for others: rules by arrows and with patterns, numbers, lists, pairs, and terms that `let` names.
 //!
 //! `unfold` writes a text without comments as one without these forms, which `ic_expand` expands, and `join` puts into it the
 //! rules of the files that it uses. `told_line` writes a net in the words of a text. What they write is tried, not proved: it is
@@ -7,14 +7,20 @@
 
 mod arrows;
 mod fault;
+mod fresh;
+mod holes;
 mod joined;
 mod lets;
+mod nests;
+mod nodes;
+mod patterns;
 mod reader;
 mod segments;
 mod sentences;
 mod shorthands;
 mod signs;
 mod spans;
+mod splitting;
 mod telling;
 mod tokens;
 mod unfolding;
@@ -24,8 +30,8 @@ mod wording;
 mod written;
 
 pub use fault::{Reason, RichFault};
+pub use holes::Hole;
 pub use joined::{JoinFault, JoinRefusal, Joined, join};
-pub use sentences::sentence;
 pub use telling::{told_graph, told_line};
 pub use unfolding::{Unfolded, unfold};
 pub use uses::{Files, Found};

@@ -1,7 +1,7 @@
 //! Reading the tokens of a rule by an arrow.
 
 use crate::fault::{LetReason, RichFault, RuleReason};
-use crate::spans::{Equation, Span};
+use crate::spans::{Equation, Side, Span};
 use crate::tokens::{Kind, Token};
 use std::alloc::Global;
 
@@ -64,38 +64,35 @@ impl<'r, 't> Reader<'r, 't> {
         reason.at(self.at())
     }
 
-    /// A side of the rule: the place of its symbol, and those of the names that are its arguments.
-    pub(crate) fn side(&mut self, alloc: Global) -> Result<(usize, Vec<usize>), RichFault> {
+    /// A side of the rule: a symbol, and its arguments in parentheses.
+    pub(crate) fn side(&mut self, alloc: Global) -> Result<Side, RichFault> {
         let symbol = self.next;
-        let mut names = Vec::new(alloc);
+        let mut args = Vec::new(alloc);
         if self.kind() != Kind::Symbol {
             return Err(self.refused(RuleReason::NoSide));
         }
         self.pass();
         if !self.takes(b'(') {
-            return Ok((symbol, names));
+            return Ok(Side { symbol, args });
         }
         for _ in 0..=self.tokens.len() {
-            names.push(self.name()?)?;
+            args.push(self.argument(alloc)?)?;
             if !self.takes(b',') {
                 break;
             }
         }
         if self.takes(b')') {
-            Ok((symbol, names))
+            Ok(Side { symbol, args })
         } else {
             Err(self.refused(RuleReason::NoClosing))
         }
     }
 
-    /// The place of a name.
-    fn name(&mut self) -> Result<usize, RichFault> {
-        let place = self.next;
-        if self.kind() == Kind::Name {
-            self.pass();
-            Ok(place)
-        } else {
-            Err(self.refused(RuleReason::NoName))
+    /// An argument of a side: a name, or a pattern.
+    fn argument(&mut self, alloc: Global) -> Result<Span, RichFault> {
+        match self.kind() {
+            Kind::Name | Kind::Symbol => self.term(alloc),
+            _ => Err(self.refused(RuleReason::NoName)),
         }
     }
 

@@ -48,6 +48,23 @@ pub(crate) fn leading_word(text: &[u8]) -> &[u8] {
     first_word(after_blanks(text))
 }
 
+/// What follows the first `<` of a rule, or nothing.
+pub(crate) fn after_meeting(part: &[u8]) -> &[u8] {
+    for (place, byte) in part.iter().enumerate() {
+        if *byte == b'<' {
+            let (_, rest) = part.split_at(place);
+            let (_, rest) = rest.split_at(rest.len().min(1));
+            return rest;
+        }
+    }
+    &part[..0]
+}
+
+/// The symbol that stands second in a rule, or nothing.
+pub(crate) fn second_of(part: &[u8]) -> &[u8] {
+    leading_word(after_meeting(part))
+}
+
 /// Whether a segment ends at this byte, within rules or not.
 fn ends_segment(within: bool, byte: u8) -> bool {
     if within {

@@ -1,10 +1,12 @@
 //! What is said of a text that isn't unfolded.
 
-use crate::fault::{LetReason, Reason, RuleReason, ShorthandReason, UseReason, WireReason};
+use crate::fault::{
+    LetReason, NestReason, Reason, RuleReason, ShorthandReason, UseReason, WireReason,
+};
 use std::alloc::{AllocError, Global};
 
 /// What is amiss at the place of a refusal, where a text goes on so.
-pub fn sentence(alloc: Global, reason: Reason, rest: &[u8]) -> Result<Vec<u8>, AllocError> {
+pub(crate) fn sentence(alloc: Global, reason: Reason, rest: &[u8]) -> Result<Vec<u8>, AllocError> {
     let (before, after) = words_of(reason);
     let mut sentence = before.to_vec(alloc)?;
     if !after.is_empty() {
@@ -32,6 +34,7 @@ fn words_of(reason: Reason) -> Words {
     match reason {
         Reason::Rule(reason) => rule_words(reason),
         Reason::Wire(reason) => wire_words(reason),
+        Reason::Nest(reason) => nest_words(reason),
         Reason::Shorthand(reason) => shorthand_words(reason),
         Reason::Let(reason) => let_words(reason),
         Reason::Use(reason) => use_words(reason),
@@ -50,7 +53,7 @@ fn rule_words(reason: RuleReason) -> Words {
             b"",
         ),
         RuleReason::NoName => (
-            b"left of => the arguments of both symbols are names, and one is looked for here",
+            b"left of => an argument is a name, or a pattern as S(x): one is looked for here",
             b"",
         ),
         RuleReason::NoMeeting => (
@@ -97,6 +100,32 @@ fn wire_words(reason: WireReason) -> Words {
         ),
         WireReason::Circle => (
             b"right of => this equation leads round to itself, and to no name left of it",
+            b"",
+        ),
+    }
+}
+
+/// What is said of rules with patterns.
+fn nest_words(reason: NestReason) -> Words {
+    match reason {
+        NestReason::Overlap(_) => (
+            b"some agents are as the patterns of two rules say, of this one and of that in ",
+            b"",
+        ),
+        NestReason::Unordered(_) => (
+            b"no argument is a pattern in each rule of these symbols, in this one and in that in ",
+            b"",
+        ),
+        NestReason::Arity => (
+            b"a symbol has one number of arguments, and an earlier pattern has another one",
+            b"",
+        ),
+        NestReason::Wide => (
+            b"what waits for this pattern would be an agent of more than 15 arguments",
+            b"",
+        ),
+        NestReason::Itself => (
+            b"where a symbol meets itself the arguments left of => are names",
             b"",
         ),
     }

@@ -24,3 +24,10 @@ pub(crate) struct Equation {
     pub(crate) left: Span,
     pub(crate) right: Span,
 }
+
+/// A side of a rule by an arrow: the place of its symbol, and its arguments.
+#[derive(Drop)]
+pub(crate) struct Side {
+    pub(crate) symbol: usize,
+    pub(crate) args: Vec<Span>,
+}

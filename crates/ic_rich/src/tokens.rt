@@ -30,7 +30,7 @@ pub(crate) struct Token<'t> {
 }
 
 /// Whether a byte is of a word: a letter, a digit, `-` or `_`.
-fn joins(byte: u8) -> bool {
+pub(crate) fn joins(byte: u8) -> bool {
     is_word_byte(byte) || byte == b'_'
 }
 

@@ -2,6 +2,8 @@
 
 use crate::arrows::{has_arrow, put_rule};
 use crate::fault::RichFault;
+use crate::holes::Hole;
+use crate::nests::Nests;
 use crate::segments::{Segment, after_blanks, part_of, segments_of};
 use crate::shorthands::Shorthands;
 use crate::signs::{Signs, signs_of};
@@ -18,6 +20,8 @@ pub struct Unfolded<'t> {
     long: Written,
     /// What that is without rules by arrows.
     plain: Written,
+    /// The holes of its patterns.
+    holes: Vec<Hole>,
 }
 
 impl Unfolded<'_> {
@@ -31,17 +35,24 @@ impl Unfolded<'_> {
         self.long.place_of(self.plain.place_of(at))
     }
 
+    /// The holes of its patterns.
+    pub fn holes(&self) -> &[Hole] {
+        &self.holes
+    }
+
     /// The words of the text, which is written as this plain one.
     pub fn wording(&self, alloc: Global, plain: &[u8]) -> Result<Wording, AllocError> {
         Wording::of_signs(alloc, self.signs, self.text(), plain)
     }
 }
 
-/// Writes a rule, or what stands outside of rules, without arrows.
+/// Writes a rule, or what stands outside of rules, without arrows. A rule with patterns has a number.
 fn put_segment(
     alloc: Global,
     text: &[u8],
     segment: Segment,
+    nests: &Nests,
+    number: Option<usize>,
     written: &mut Written,
 ) -> Result<(), RichFault> {
     let part = segment.part_of(text);
@@ -51,18 +62,47 @@ fn put_segment(
     let rule = after_blanks(part);
     let from = segment.to.saturating_sub(rule.len());
     written.put(part_of(text, segment.from, from), segment.from)?;
-    put_rule(alloc, rule, from, written)
+    match number {
+        Some(number) => nests.put(alloc, number, rule, from, written),
+        None => put_rule(alloc, rule, from, written),
+    }
 }
 
-/// A text with rules of the calculus in the place of those by arrows.
-fn without_arrows(alloc: Global, text: &[u8]) -> Result<Written, RichFault> {
-    let mut written = Written::new(alloc);
-    for segment in &segments_of(alloc, text)? {
-        put_segment(alloc, text, *segment, &mut written)?;
+/// Writes a text with rules of the calculus in the place of those by arrows.
+fn put_text(
+    alloc: Global,
+    text: &[u8],
+    segments: &[Segment],
+    nests: &Nests,
+    written: &mut Written,
+) -> Result<(), RichFault> {
+    for (place, segment) in segments.iter().enumerate() {
+        put_segment(
+            alloc,
+            text,
+            *segment,
+            nests,
+            nests.number_of(place),
+            written,
+        )?;
         let end = part_of(text, segment.to, segment.to.saturating_add(1));
         written.put(end, segment.to)?;
     }
-    Ok(written)
+    Ok(())
+}
+
+/// A text with rules of the calculus in the place of those by arrows, and the holes of those with patterns.
+fn without_arrows(
+    alloc: Global,
+    text: &[u8],
+    signs: Signs,
+) -> Result<(Written, Vec<Hole>), RichFault> {
+    let segments = segments_of(alloc, text)?;
+    let nests = Nests::of_text(alloc, text, &segments, signs)?;
+    let mut written = Written::new(alloc);
+    put_text(alloc, text, &segments, &nests, &mut written)?;
+    let holes = nests.into_holes();
+    Ok((written, holes))
 }
 
 /// A text without comments and without forms. First numbers, lists, pairs and names by `let` are written as the terms for which they
@@ -71,9 +111,20 @@ pub fn unfold<'t>(alloc: Global, text: &'t [u8]) -> Result<Unfolded<'t>, RichFau
     let segments = segments_of(alloc, text)?;
     let signs = signs_of(alloc, text, &segments)?;
     let long = Shorthands::new(alloc, text, signs).put_all(&segments)?;
-    match without_arrows(alloc, long.text()) {
-        Ok(plain) => Ok(Unfolded { signs, long, plain }),
+    match without_arrows(alloc, long.text(), signs) {
+        Ok((plain, mut holes)) => {
+            for hole in holes.iter_mut() {
+                hole.at = long.place_of(hole.at);
+            }
+            Ok(Unfolded {
+                signs,
+                long,
+                plain,
+                holes,
+            })
+        }
         Err(RichFault::Refused(reason, at)) => {
+            let reason = reason.moved(&long);
             Err(RichFault::Refused(reason, long.place_of(at)))
         }
         Err(RichFault::Memory) => Err(RichFault::Memory),
