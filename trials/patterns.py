@@ -123,6 +123,26 @@ def drawn_value(draw, depth):
     return agent(symbol, [drawn_value(draw, depth - 1) for _ in range(VALUES[symbol])])
 
 
+def drawn_open_text(draw, words):
+    """The rules of functions, and a net of calls over values that end in free wires."""
+    functions = drawn_functions(draw, words)
+    rules = "{" + ";".join([*(rule_text(draw, it, written) for it in rules_of(functions)), "number S Z", "pair Pair", "erase Era"]) + "}"
+    free = iter(range(1, 10**6))
+
+    def opened(term):
+        if draw.random() < 0.3:
+            return name(f"f_{next(free)}")
+        return agent(term[1], map(opened, term[2]))
+
+    calls = []
+    for number in range(draw.randint(1, 4)):
+        function = draw.choice(functions)
+        held = [opened(drawn_value(draw, 3)) for _ in range(function.arity)]
+        calls.append((agent(function.symbol, [*held, name(f"r_{number}")]), opened(drawn_value(draw, 4))))
+    names = [it for call in calls for term in call for it in names_in(term)]
+    return rules, rich.net_text(([name(it) for it in names], calls))
+
+
 def drawn_text(draw, words):
     """A rich text of functions with nested patterns and of calls, the same by an expander of its own, and what its free wires
     come to."""

@@ -1,6 +1,7 @@
 """Rules with nested patterns: worked examples whose rules are written by hand, drawn functions, whose values Python says, and faults."""
 
 import random
+import re
 import resource
 
 import patterns
@@ -102,6 +103,15 @@ class Worked(Trial):
             self.runs("reduce", "--rich", given=text.replace("= 10", f"= {number}"), out=[f"<{wanted[number]}|>"])
             wanted.append(sum(wanted[-2:]))
 
+    def test_an_agent_that_waits_is_told_as_what_it_was(self):
+        rules = "{number S Z; Half(r)><0=>r~0; Half(r)><1=>r~0; Half(r)><S^2(n)=>Half(w)~n,r~S(w)}"
+        for net, wanted in (
+            ("<r,x|Half(r)=S(x)>", "<r,s|Half(r)=S(s)>"),
+            ("<r,x|Half(r)=S^5(x)>", "<S^2(r),s|Half(r)=S(s)>"),
+            ("<half,x|Half(half)=S(x)>", "<half,y|Half(half)=S(y)>"),
+        ):
+            self.runs("reduce", "--rich", given=rules + net, out=[wanted])
+
     def test_files_with_patterns_are_used(self):
         (self.room / "half.rich").write_text("{number S Z; list C N; Half(r)><0=>r~0; Half(r)><1=>r~0;\n Half(r)><S^2(n)=>Half(w)~n,r~S(w);\n Last(r)><[x]=>r~x; Last(r)><[x,y|l]=>x~Era,l~After(y,r); After(y,r)><[]=>r~y; After(y,r)><[x|l]=>y~Era,l~After(x,r); erase Era}\n<|>")
         path = self.room / "main.rich"
@@ -125,6 +135,19 @@ class Drawn(Trial):
             for given in (text, expanded):
                 ran = run("reduce", "--rich", "--plain", "--workers", 1, given=given)
                 self.equals(ran.command, "how it ends", (0, wanted + "\n"), (ran.status, ran.out.decode()))
+
+    def test_agents_that_wait_are_told_as_what_they_were(self):
+        """An answer has no symbol but those of its text, and comes to the same net again."""
+        draw = random.Random(f"{SEED} waiting")
+        for _ in range(80):
+            rules, net = patterns.drawn_open_text(draw, WORDS)
+            plain = run("reduce", "--rich", "--plain", "--workers", 1, given=rules + net)
+            told = run("reduce", "--rich", "--workers", 1, given=rules + net)
+            self.equals(told.command, "how both end", (0, 0), (plain.status, told.status))
+            symbols = set(re.findall(r"[A-Z][A-Za-z0-9]*", told.out.decode()))
+            self.equals(told.command, f"symbols that are made, in {told.out}", set(), symbols - {"F", "Gg", "H1", "Z", "S", "Pair", "Era"})
+            again = run("reduce", "--rich", "--plain", "--workers", 1, given=rules + told.out.decode())
+            self.equals(told.command, "what its answer comes to", rich.canonical(plain.out.decode()), rich.canonical(again.out.decode()))
 
     def test_what_is_written_has_the_lines_of_the_text(self):
         draw = random.Random(f"{SEED} lines")

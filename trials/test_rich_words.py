@@ -117,7 +117,7 @@ class Rich(Trial):
 
     def test_a_place_in_what_is_expanded_is_said_to_be_one(self):
         text = "{A(left) >< B}\n<|>"
-        for words in (("reduce",), ("once",), ("trace",)):
+        for words in (("reduce", "--plain"), ("once", "--plain")):
             ran = run(*words, "--rich", given=text)
             told = (ran.err + ran.after).decode().splitlines(keepends=True)
             self.equals(ran.command, "how it ends", (1, "line 1, column 4\n", OF_PLAIN.decode()), (ran.status, told[1], told[-1]))

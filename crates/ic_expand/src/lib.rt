@@ -4,7 +4,8 @@
 //! `expand` writes it as a text that `ic_text` reads: without comments, with names of the calculus, and with the rules
 //! of S and each symbol in the place of such a line. `expand_text` first writes forms as what they stand for, by `ic_rich`,
 //! and `expand_stream` does so over a reader and a writer. `open_text` gives a word what it reads of a text that may be rich,
-//! and `write_told` tells what comes of it in its words.
+//! and `write_told` tells what comes of it in its words. `Opened::retell`
+//! tells a refusal of what a text is expanded to at its place in that text.
 //! `laws` says what is proved of the definitions alone.
 #![tactic(auto)]
 
@@ -22,6 +23,7 @@ mod names;
 mod opening;
 mod pieces;
 mod reading;
+mod retelling;
 mod rules;
 mod spot;
 mod stream;

@@ -12,7 +12,8 @@ use crate::fault::{ExpandFault, Reason};
 use crate::forms::has_form;
 use crate::writing::expand;
 use ic_rich::{
-    Files, Found, JoinFault, JoinRefusal, Joined, RichFault, Unfolded, Wording, join, unfold,
+    Files, Found, JoinFault, JoinRefusal, Joined, Origin, RichFault, Unfolded, Wording, join,
+    unfold,
 };
 use ic_text::TextFault;
 use std::alloc::{AllocError, AllocFailed, Global};
@@ -22,6 +23,19 @@ use std::alloc::{AllocError, AllocFailed, Global};
 pub struct Expanded {
     pub text: Vec<u8>,
     pub wording: Wording,
+}
+
+impl Expanded {
+    /// The same, where the text is kept for which it stands.
+    fn of_origin(self, origin: Origin) -> Expanded
+        ensures { result.text.items ≡ self.text.items }
+    {
+        let Expanded { text, wording } = self;
+        Expanded {
+            text,
+            wording: wording.with_origin(origin),
+        }
+    }
 }
 
 /// Why a text is refused, and at which place of which text, the one without comments, as it is told.
@@ -76,7 +90,7 @@ fn formed_text<F: Files>(alloc: Global, text: &[u8], files: &F) -> Result<Expand
 {
     let body = without_comments(alloc, text)?;
     match join(alloc, body, &Uncommented { files }) {
-        Ok(joined) => joined_text(alloc, &joined),
+        Ok(joined) => joined_text(alloc, joined),
         Err(JoinFault::Memory) => Err(Unexpanded::Memory),
         Err(JoinFault::Refused(refused)) => Err(of_refusal(refused, TextFault::Syntax)),
     }
@@ -126,13 +140,24 @@ fn of_refusal(refused: JoinRefusal, fault: TextFault) -> Unexpanded
     })
 }
 
+/// What a text with the rules of the files that it uses is expanded to, or its refusal. The text is kept.
+fn joined_text(alloc: Global, joined: Joined) -> Result<Expanded, Unexpanded>
+    ensures text { IfOk result (λ out. (plain : List ℕ) × (expanded plain ≡ Ok out.text.items)) }
+    ensures refused { IfErr result IsOfForms }
+{
+    match read_joined(alloc, &joined) {
+        Ok(out) => Ok(out.of_origin(Origin::Formed(joined))),
+        Err(cause) => Err(cause),
+    }
+}
+
 /// What a text with the rules of the files that it uses is expanded to, or its refusal.
-fn joined_text(alloc: Global, joined: &Joined) -> Result<Expanded, Unexpanded>
+fn read_joined(alloc: Global, joined: &Joined) -> Result<Expanded, Unexpanded>
     ensures text { IfOk result (λ out. (plain : List ℕ) × (expanded plain ≡ Ok out.text.items)) }
     ensures refused { IfErr result IsOfForms }
 {
     match unfold(alloc, joined.text()) {
-        Ok(written) => unfolded_text(alloc, joined, &written),
+        Ok(written) => unfolded_text(alloc, joined, written),
         Err(RichFault::Memory) => Err(Unexpanded::Memory),
         Err(RichFault::Refused(reason, at)) => {
             let refused = joined.refused_for(alloc, reason, at)?;
@@ -153,13 +178,13 @@ fn form_fault(reason: ic_rich::Reason) -> TextFault
 }
 
 /// What is expanded of what a text with forms is unfolded to, or its refusal.
-fn unfolded_text(alloc: Global, joined: &Joined, written: &Unfolded) -> Result<Expanded, Unexpanded>
+fn unfolded_text(alloc: Global, joined: &Joined, written: Unfolded) -> Result<Expanded, Unexpanded>
     ensures text { IfOk result (λ out. (plain : List ℕ) × (expanded plain ≡ Ok out.text.items)) }
     ensures refused { IfErr result IsOfForms }
 {
     match expand(alloc, written.text()) {
         Ok(text) => {
-            let wording = written.wording(alloc, &text)?;
+            let wording = written.into_wording(alloc, &text)?;
             Ok(Expanded { text, wording })
         }
         Err(ExpandFault::Memory) => Err(Unexpanded::Memory),
@@ -180,7 +205,8 @@ fn formless_text(alloc: Global, text: &[u8]) -> Result<Expanded, Unexpanded>
         Ok(out) => {
             let body = without_comments(alloc, text)?;
             let wording = Wording::of_names(alloc, &body, &out)?;
-            Ok(Expanded { text: out, wording })
+            let out = Expanded { text: out, wording };
+            Ok(out.of_origin(Origin::Body(body)))
         }
         Err(ExpandFault::Memory) => Err(Unexpanded::Memory),
         Err(ExpandFault::Refused(reason, at)) => {

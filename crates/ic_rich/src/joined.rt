@@ -143,7 +143,7 @@ fn head_of(
 }
 
 /// The line of a place in a text, from 1.
-fn line_of(text: &[u8], at: usize) -> usize {
+pub(crate) fn line_of(text: &[u8], at: usize) -> usize {
     let front = part_of(text, 0, at);
     front
         .iter()
@@ -276,6 +276,16 @@ impl Joined {
             )?;
         }
         self.refused(alloc, at, &words)
+    }
+
+    /// Appends the file and the line of a place of it.
+    pub(crate) fn put_line(
+        &self,
+        alloc: Global,
+        at: usize,
+        out: &mut Vec<u8>,
+    ) -> Result<(), AllocError> {
+        put_place(alloc, &self.sources, self.woven.source_of(at), out)
     }
 
     /// The holes of its patterns, each with the place of the text that is read at which it is told. One that is refused has none.

@@ -5,6 +5,7 @@ use crate::fault::{NestReason, RichFault};
 use crate::fresh::Fresh;
 use crate::holes::Hole;
 use crate::patterns::Pattern;
+use crate::restoring::Waiters;
 use crate::segments::{Segment, after_blanks, leading_word, second_of};
 use crate::signs::Signs;
 use crate::splitting::Splitting;
@@ -164,13 +165,13 @@ impl<'t> Nests<'t> {
         self.numbers.get(segment).copied().flatten()
     }
 
-    /// The holes of the rules alone.
-    pub(crate) fn into_holes(self) -> Vec<Hole> {
+    /// The holes of the rules, and the agents that wait, alone.
+    pub(crate) fn into_parts(self) -> (Vec<Hole>, Waiters) {
         let Nests {
             splitting,
             numbers: _,
         } = self;
-        splitting.into_holes()
+        splitting.into_parts()
     }
 
     /// Writes what a rule is split into, which is this part of the text. The ends of its lines follow.

@@ -6,6 +6,7 @@ use crate::fresh::Fresh;
 use crate::holes::{Hole, missing};
 use crate::nodes::{MAX_ARGUMENTS, Node, Row, without};
 use crate::patterns::{Pattern, overlap};
+use crate::restoring::{Waiter, Waiters};
 use crate::signs::Signs;
 use crate::spans::Span;
 use std::alloc::{AllocError, Global};
@@ -44,6 +45,7 @@ pub(crate) struct Splitting<'t> {
     waiting: Vec<Node>,
     shares: Vec<Share>,
     holes: Vec<Hole>,
+    waiters: Waiters,
     /// How many bytes are made.
     made: usize,
 }
@@ -57,6 +59,7 @@ impl<'t> Splitting<'t> {
             waiting: Vec::new(alloc),
             shares: Vec::new(alloc),
             holes: Vec::new(alloc),
+            waiters: BTreeMap::new(alloc),
             made: 0,
         }
     }
@@ -81,8 +84,8 @@ impl<'t> Splitting<'t> {
         }
     }
 
-    /// The holes of the rules alone.
-    pub(crate) fn into_holes(self) -> Vec<Hole> {
+    /// The holes of the rules, and the agents that wait, alone.
+    pub(crate) fn into_parts(self) -> (Vec<Hole>, Waiters) {
         let Splitting {
             alloc: _,
             patterns: _,
@@ -90,9 +93,10 @@ impl<'t> Splitting<'t> {
             waiting: _,
             shares: _,
             holes,
+            waiters,
             made: _,
         } = self;
-        holes
+        (holes, waiters)
     }
 
     /// Where a rule begins in the text.
@@ -210,8 +214,21 @@ impl<'t> Splitting<'t> {
         let waiter = fresh.symbol(self.alloc, one, other)?;
         let made = node.meeting(self.alloc, column, &waiter)?;
         self.put_before(rule, &made)?;
+        self.note_waiter(&node, column, &waiter)?;
         let places = self.wait_for(node, column, &waiter)?;
         self.note_hole(rule, token, &places)
+    }
+
+    /// Notes the agent that the two of a node become, and for which argument it waits.
+    fn note_waiter(&mut self, node: &Node, column: usize, waiter: &[u8]) -> Result<(), RichFault> {
+        let [one, other] = &node.symbols;
+        let made = Waiter {
+            symbols: [one.to_vec(self.alloc)?, other.to_vec(self.alloc)?],
+            left: node.left,
+            column,
+        };
+        self.waiters.insert(waiter.to_vec(self.alloc)?, made)?;
+        Ok(())
     }
 
     /// The refusal of a rule at a token.

@@ -3,6 +3,7 @@
 //! A line is read byte by byte, and each term is told as it comes. What is open stands on a stack, on which a list is one entry, and so
 //! is a number.
 
+use crate::restoring::restored;
 use crate::tokens::first_word;
 use crate::wording::Wording;
 use std::alloc::{AllocError, Global};
@@ -37,6 +38,14 @@ struct Telling<'w> {
 
 /// A line of a net in these words.
 pub fn told_line(alloc: Global, wording: &Wording, line: &[u8]) -> Result<Vec<u8>, AllocError> {
+    match restored(alloc, &wording.waiters, wording.next_name(), line)? {
+        Some(line) => told_in(alloc, wording, &line),
+        None => told_in(alloc, wording, line),
+    }
+}
+
+/// A line of a net, in which no agent waits, in these words.
+fn told_in(alloc: Global, wording: &Wording, line: &[u8]) -> Result<Vec<u8>, AllocError> {
     let mut telling = Telling {
         alloc,
         wording,

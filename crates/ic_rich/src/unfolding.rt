@@ -4,6 +4,7 @@ use crate::arrows::{has_arrow, put_rule};
 use crate::fault::RichFault;
 use crate::holes::Hole;
 use crate::nests::Nests;
+use crate::restoring::Waiters;
 use crate::segments::{Segment, after_blanks, part_of, segments_of};
 use crate::shorthands::Shorthands;
 use crate::signs::{Signs, signs_of};
@@ -22,6 +23,8 @@ pub struct Unfolded<'t> {
     plain: Written,
     /// The holes of its patterns.
     holes: Vec<Hole>,
+    /// The agents that wait for what stands in patterns.
+    waiters: Waiters,
 }
 
 impl Unfolded<'_> {
@@ -41,8 +44,15 @@ impl Unfolded<'_> {
     }
 
     /// The words of the text, which is written as this plain one.
-    pub fn wording(&self, alloc: Global, plain: &[u8]) -> Result<Wording, AllocError> {
-        Wording::of_signs(alloc, self.signs, self.text(), plain)
+    pub fn into_wording(self, alloc: Global, plain: &[u8]) -> Result<Wording, AllocError> {
+        let Unfolded {
+            signs,
+            long: _,
+            plain: written,
+            holes: _,
+            waiters,
+        } = self;
+        Wording::of_signs(alloc, signs, waiters, written.text(), plain)
     }
 }
 
@@ -91,18 +101,17 @@ fn put_text(
     Ok(())
 }
 
-/// A text with rules of the calculus in the place of those by arrows, and the holes of those with patterns.
-fn without_arrows(
-    alloc: Global,
-    text: &[u8],
-    signs: Signs,
-) -> Result<(Written, Vec<Hole>), RichFault> {
+/// What is written of a text: without arrows, with the holes of patterns, and the agents that wait.
+type WithoutArrows = (Written, Vec<Hole>, Waiters);
+
+/// A text with rules of the calculus in the place of those by arrows.
+fn without_arrows(alloc: Global, text: &[u8], signs: Signs) -> Result<WithoutArrows, RichFault> {
     let segments = segments_of(alloc, text)?;
     let nests = Nests::of_text(alloc, text, &segments, signs)?;
     let mut written = Written::new(alloc);
     put_text(alloc, text, &segments, &nests, &mut written)?;
-    let holes = nests.into_holes();
-    Ok((written, holes))
+    let (holes, waiters) = nests.into_parts();
+    Ok((written, holes, waiters))
 }
 
 /// A text without comments and without forms. First numbers, lists, pairs and names by `let` are written as the terms for which they
@@ -112,7 +121,7 @@ pub fn unfold<'t>(alloc: Global, text: &'t [u8]) -> Result<Unfolded<'t>, RichFau
     let signs = signs_of(alloc, text, &segments)?;
     let long = Shorthands::new(alloc, text, signs).put_all(&segments)?;
     match without_arrows(alloc, long.text(), signs) {
-        Ok((plain, mut holes)) => {
+        Ok((plain, mut holes, waiters)) => {
             for hole in holes.iter_mut() {
                 hole.at = long.place_of(hole.at);
             }
@@ -121,6 +130,7 @@ pub fn unfold<'t>(alloc: Global, text: &'t [u8]) -> Result<Unfolded<'t>, RichFau
                 long,
                 plain,
                 holes,
+                waiters,
             })
         }
         Err(RichFault::Refused(reason, at)) => {

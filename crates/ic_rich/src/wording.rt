@@ -1,5 +1,8 @@
-//! The words of a text, in which the nets to which it comes are told.
+//! The words of a text, in which the nets to which it comes and the refusals of its plain text are told.
 
+use crate::joined::JoinRefusal;
+use crate::restoring::{Waiters, name_number};
+use crate::retelling::Origin;
 use crate::segments::after_blanks;
 use crate::signs::{Sign, Signs};
 use crate::tokens::first_word;
@@ -22,6 +25,10 @@ pub struct Wording {
     pub(crate) pair: Form,
     /// What stands in the text for a name of its plain text, or nothing where that is a wire.
     pub(crate) names: BTreeMap<Vec<u8>, Option<Vec<u8>>>,
+    /// The agents that wait for what stands in patterns.
+    pub(crate) waiters: Waiters,
+    /// The text itself, if it is kept.
+    origin: Option<Origin>,
 }
 
 /// How many arguments stand in parentheses with which a text begins, if any do.
@@ -156,6 +163,7 @@ impl Wording {
     pub(crate) fn of_signs(
         alloc: Global,
         signs: Signs,
+        waiters: Waiters,
         text: &[u8],
         plain: &[u8],
     ) -> Result<Wording, AllocError> {
@@ -164,12 +172,57 @@ impl Wording {
             list: Form::new(alloc, signs.list, 2, plain)?,
             pair: Form::new(alloc, signs.pair, 2, plain)?,
             names: names_of(alloc, text, plain)?,
+            waiters,
+            origin: None,
         })
+    }
+
+    /// The same, where the text is kept.
+    pub fn with_origin(self, origin: Origin) -> Wording {
+        let Wording {
+            number,
+            list,
+            pair,
+            names,
+            waiters,
+            origin: _,
+        } = self;
+        Wording {
+            number,
+            list,
+            pair,
+            names,
+            waiters,
+            origin: Some(origin),
+        }
+    }
+
+    /// The refusal at a place of its plain text, of which a sentence is said, as it is told of the text, if that is kept.
+    pub fn retold(
+        &self,
+        alloc: Global,
+        plain: &[u8],
+        at: usize,
+        sentence: &[u8],
+    ) -> Result<Option<JoinRefusal>, AllocError> {
+        match &self.origin {
+            Some(origin) => origin.retold(alloc, plain, at, sentence),
+            None => Ok(None),
+        }
     }
 
     /// The words of a text without forms that is written as this plain text: its long names.
     pub fn of_names(alloc: Global, text: &[u8], plain: &[u8]) -> Result<Wording, AllocError> {
-        Wording::of_signs(alloc, Signs::new(), text, plain)
+        Wording::of_signs(alloc, Signs::new(), BTreeMap::new(alloc), text, plain)
+    }
+
+    /// One more than the greatest number of a name for which another one stands in the text.
+    pub(crate) fn next_name(&self) -> u64 {
+        let mut next = 0u64;
+        for (name, _) in &self.names {
+            next = next.max(name_number(name).saturating_add(1));
+        }
+        next
     }
 
     /// What stands in the text for a free name of its plain text, if that is another one.

@@ -34,8 +34,8 @@ pub(crate) fn is_rich_path(path: &str) -> bool {
 pub(crate) const OF_PLAIN: &[u8] =
     b"the line is the same in the rich text; `icserve expand` writes it as it is told here\n";
 
-/// How a word ended that read a text. If it is a rich one, and what that is expanded to is refused, `told` says that the place
-/// is one of that.
+/// How a word ended that read a text. If it is a rich one, and what that is expanded to is refused, `told` tells the place in the
+/// rich text, or says that it is one of what that is expanded to.
 pub(crate) fn tell_of_plain<R>(
     opened: &Opened<R>,
     done: Result<(), Failure>,
@@ -43,7 +43,10 @@ pub(crate) fn tell_of_plain<R>(
 ) -> Result<(), Failure> {
     let is_refused = matches!(done, Err(Failure::Stream(StreamFault::Text(_))));
     if is_refused && opened.is_expanded() {
-        let _ = told.extend_from_slice(OF_PLAIN);
+        let alloc = *told.allocator();
+        if !opened.retell(alloc, told).unwrap_or(false) {
+            let _ = told.extend_from_slice(OF_PLAIN);
+        }
     }
     done
 }
