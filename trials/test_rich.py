@@ -33,6 +33,11 @@ WORKED = {
         "{copy D; A(x) >< B => x~D(y,y)} <|A(x)=x>",
         "{ D(A(a),A(a1))><A(D(a,a1));D(a,b)><D(a,b);D(B,B)><B; A(D(y,y))><B} <|A(x)=x>",
     ),
+    "copiers of one another": (
+        "{copy D, E} <|D(a,b)=E(c,d)>",
+        "{ D(a,b)><D(a,b);D(E(a,b),E(a1,b1))><E(D(a,a1),D(b,b1));  E(a,b)><E(a,b)} <|D(a,b)=E(c,d)>",
+    ),
+    "erasers over lines": ("{erase E\n,\nF;A><B} <|>", "{ E><A;E><B;E><E;E><F\n; \nF><A;F><B;F><F;A><B} <|>"),
     "equations of the configuration stay": ("{A><B} <|a=>", "{A><B} <|a=>"),
     "separators at an end": ("{A><B;\n C><D ; } <a,b|a=A, b=B , >", "{A><B;\n C><D  } <a,b|a=A, b=B  >"),
     "separators that are no end stay": ("{A><B;;} <a,|a=A,,>", "{A><B;} <a,|a=A,>"),
@@ -88,6 +93,7 @@ REFUSED = {
     "a let of two terms": ("{} let two = A B <|>", (1, 16), "after the term of a let another let or the configuration is looked for"),
     "two lets of a name": ("{} let two = A; let two = B <|>", (1, 21), "an earlier let names two already"),
     "a fault after a number": ("{number S Z; A(x)><B=>x~4;copy dup} <|>", (1, 32), "copy and erase need a symbol: A to Z or 0 to 9, and then letters and digits"),
+    "a copier without a symbol": ("{copy D,} <|D(a,b)=A>", (1, 9), "copy and erase need a symbol: A to Z or 0 to 9, and then letters and digits"),
     "of a copier in the same text": ("{A(x) >< B => x~C;\ncopy dup} <|>", (2, 6), "copy and erase need a symbol: A to Z or 0 to 9, and then letters and digits"),
     "of a copier on the same line": ("{A(x)><B=>x~C;copy dup} <|>", (1, 20), "copy and erase need a symbol: A to Z or 0 to 9, and then letters and digits"),
 }

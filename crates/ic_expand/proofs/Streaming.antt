@@ -18,6 +18,7 @@ use Rattle.ic_expand.specs.declared.limits.TheConstants.{MAX_RICH_TEXT}
 use Rattle.ic_expand.specs.Comments.{uncommented}
 use Rattle.ic_expand.specs.Expanding.{body_expanded, expanded}
 use Rattle.ic_expand.specs.Forms.{has_form, have_form}
+use Rattle.ic_expand.specs.declared.spot.Spot.TheVariants.{Elsewhere}
 use Rattle.ic_expand.specs.Pieces.{pieces}
 use Rattle.ic_expand.specs.Streams.{Expands, IsRefusedWith, IsWrittenAs, TakesSome, TakesWhole}
 
@@ -44,7 +45,7 @@ front_expanded front rest end = elim (cases_lt MAX_RICH_TEXT (length front)) [
 
 -- a text that is too long has no form
 formless : (text : List ℕ) → MAX_RICH_TEXT < length text → has_form text ≡ false
-formless text long = ap (λ (b : Bool). b && have_form 0 (pieces (uncommented text))) (le-false (length text) MAX_RICH_TEXT long)
+formless text long = ap (λ (b : Bool). b && have_form 0 Elsewhere (pieces (uncommented text))) (le-false (length text) MAX_RICH_TEXT long)
 
 front_formed : (front rest : List ℕ) → (length front ≤ MAX_RICH_TEXT → rest ≡ []) → has_form (front ++ rest) ≡ has_form front
 front_formed front rest end = elim (cases_lt MAX_RICH_TEXT (length front)) [

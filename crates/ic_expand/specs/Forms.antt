@@ -5,6 +5,9 @@ use Rattle.ic_text.specs.Token.{is_blank}
 use Rattle.ic_expand.specs.declared.limits.TheConstants.{MAX_RICH_TEXT}
 use Rattle.ic_expand.specs.Comments.{uncommented}
 use Rattle.ic_expand.specs.Pieces.{first_byte, pieces}
+use Rattle.ic_expand.specs.Spots.{after}
+use Rattle.ic_expand.specs.declared.spot.Spot.{Spot}
+use Rattle.ic_expand.specs.declared.spot.Spot.TheVariants.{Elsewhere, Opening, Asked, Given}
 
 -- two marks that stand so in forms alone, with or without blanks between: `=>`, and `;}` and `,>` at an end
 abbrev pub are_form : (before : ℕ) → ℕ → Bool
@@ -19,12 +22,19 @@ is_form p = bytes_eq p (codes "[") || bytes_eq p (codes "^") || bytes_eq p (code
 abbrev pub after_piece : (before : ℕ) → List ℕ → ℕ
 after_piece before p = if is_blank (first_byte p) then before else first_byte p
 
+-- a `,` after the symbol of a `copy` or an `erase`
+abbrev pub goes_on : Spot → ℕ → Bool
+goes_on Given b = b == 44
+goes_on Elsewhere b = false
+goes_on Opening b = false
+goes_on (Asked kind) b = false
+
 -- whether pieces have a form
-abbrev pub have_form : (before : ℕ) → List (List ℕ) → Bool
-have_form before [] = false
-have_form before (p ∷ ps) = are_form before (first_byte p) || is_form p
-    || have_form (after_piece before p) ps
+abbrev pub have_form : (before : ℕ) → Spot → List (List ℕ) → Bool
+have_form before spot [] = false
+have_form before spot (p ∷ ps) = are_form before (first_byte p) || is_form p || goes_on spot (first_byte p)
+    || have_form (after_piece before p) (after spot p) ps
 
 -- whether a text that isn't too long has a form, outside its comments
 abbrev pub has_form : List ℕ → Bool
-has_form text = nat_le (length text) MAX_RICH_TEXT && have_form 0 (pieces (uncommented text))
+has_form text = nat_le (length text) MAX_RICH_TEXT && have_form 0 Elsewhere (pieces (uncommented text))

@@ -1,12 +1,14 @@
 //! Whether a text has forms that stand for others.
 
 ghost use Rattle.std.specs.Prelude.{◌≡◌, IfOk};
-ghost use Rattle.ic_expand.specs.Forms.{after_piece, are_form, has_form, have_form, is_form};
+ghost use Rattle.ic_expand.specs.Forms.{after_piece, are_form, goes_on, has_form, have_form, is_form};
 ghost use Rattle.ic_expand.specs.Pieces.{pieces};
+ghost use Rattle.ic_expand.specs.declared.spot.Spot.TheVariants.{Elsewhere};
 
 use crate::comments::without_comments;
 use crate::limits::MAX_RICH_TEXT;
 use crate::pieces::{first_byte, split_piece};
+use crate::spot::Spot;
 use ic_text::is_blank;
 use std::alloc::{AllocError, Global};
 
@@ -32,6 +34,16 @@ fn is_form(piece: &[u8]) -> bool
         || piece == b"use".as_slice()
 }
 
+/// Whether a byte has a `copy` or an `erase` go on with a further symbol.
+fn goes_on(spot: Spot, byte: u8) -> bool
+    ensures { result ≡ goes_on spot byte }
+{
+    match spot {
+        Spot::Given => byte == b',',
+        Spot::Elsewhere | Spot::Opening | Spot::Asked(_) => false,
+    }
+}
+
 /// The byte that stands before what follows a piece, blanks apart.
 fn after_piece(before: u8, piece: &[u8]) -> u8
     ensures { result ≡ after_piece before piece.now }
@@ -42,16 +54,19 @@ fn after_piece(before: u8, piece: &[u8]) -> u8
 
 /// Whether the pieces of a text without comments have a form.
 fn have_form(text: &[u8]) -> bool
-    ensures { result ≡ have_form 0 (pieces text.now) }
+    ensures { result ≡ have_form 0 Elsewhere (pieces text.now) }
 {
     let mut before = 0u8;
+    let mut spot = Spot::Elsewhere;
     let mut rest = text;
     while !rest.is_empty() {
         let (piece, more) = split_piece(rest);
-        if are_form(before, first_byte(piece)) || is_form(piece) {
+        let first = first_byte(piece);
+        if are_form(before, first) || is_form(piece) || goes_on(spot, first) {
             return true;
         }
         before = after_piece(before, piece);
+        spot = spot.after(piece);
         rest = more;
     }
     false

@@ -147,6 +147,7 @@ pub fn what_is_answered_is_what_is_expanded()
         → (plain : List ℕ) × (expanded plain ≡ Ok output) }
     ensures forms { has_form (codes "{A><B=>}") ≡ true }
     ensures separator { has_form (codes "{A><B ; } <|>") ≡ true }
+    ensures copiers { has_form (codes "{copy D , E} <|>") ≡ true }
     ensures formless { has_form (codes "{copy D;A><B} <a,a|D(x,y)=B> # =>") ≡ false }
     ensures limit { text_fault TextBytes ≡ Limit }
     ensures syntax { (reason : Reason) → reason ≢ TextBytes → text_fault reason ≡ Syntax }

@@ -42,7 +42,7 @@ fn missing_of<'t>(sign: Sign<'t>, places: &BTreeMap<&'t [u8], usize>) -> Option<
 }
 
 /// What is missing of numbers, or else of lists, where these symbols stand.
-pub(crate) fn missing<'t>(
+pub(crate) fn missing_in<'t>(
     signs: Signs<'t>,
     places: &BTreeMap<&'t [u8], usize>,
 ) -> Option<Missing<'t>> {

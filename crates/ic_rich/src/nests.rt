@@ -132,8 +132,10 @@ impl<'t> Nests<'t> {
         if !segment.within {
             return Ok(None);
         }
-        let place = groups.place_of(alloc, part)?;
-        let Some(group) = place.and_then(|place| groups.all.get_mut(place)) else {
+        let Some(place) = groups.place_of(alloc, part)? else {
+            return Ok(None);
+        };
+        let Some(group) = groups.all.get_mut(place) else {
             return Ok(None);
         };
         let rule = after_blanks(part);

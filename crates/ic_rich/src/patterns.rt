@@ -15,6 +15,13 @@ pub(crate) struct Pattern<'t> {
     is_turned: bool,
 }
 
+/// Notes that the arguments that a token opens are closed by one at a place.
+fn note_close(closes: &mut [usize], from: usize, place: usize) {
+    if let Some(close) = closes.get_mut(from) {
+        *close = place.saturating_add(1);
+    }
+}
+
 /// For each token that opens arguments the place after the one that closes them.
 fn closes_of(alloc: Global, tokens: &[Token]) -> Result<Vec<usize>, AllocError> {
     let mut closes = vec![in alloc; 0usize; tokens.len()]?;
@@ -23,8 +30,8 @@ fn closes_of(alloc: Global, tokens: &[Token]) -> Result<Vec<usize>, AllocError> 
         if token.kind == Kind::Mark(b'(') {
             open.push(place)?;
         } else if token.kind == Kind::Mark(b')') {
-            if let Some(close) = open.pop().and_then(|from| closes.get_mut(from)) {
-                *close = place.saturating_add(1);
+            if let Some(from) = open.pop() {
+                note_close(&mut closes, from, place);
             }
         }
     }

@@ -181,7 +181,7 @@ impl Restoring<'_> {
             match self.waiters.get(symbol) {
                 Some(waiter) => {
                     let [one, _] = &waiter.symbols;
-                    symbol = one;
+                    symbol = one.as_slice();
                 }
                 None => return depth,
             }

@@ -4,7 +4,7 @@ use crate::joined::{JoinRefusal, Joined, line_of};
 use crate::segments::part_of;
 use crate::tokens::{first_word, joins};
 use crate::unfolding::{Unfolded, unfold};
-use crate::whence::{Generic, Names, rule_start, whence};
+use crate::whence::{Generic, Names, rule_start, whence_of};
 use std::alloc::{AllocError, Global};
 
 /// The rich text for which a plain one stands.
@@ -149,7 +149,7 @@ impl Retelling<'_> {
     /// Appends where the rule with this number stands, if it is found.
     fn put_rule(&self, alloc: Global, number: usize, out: &mut Vec<u8>) -> Result<(), AllocError> {
         let start = rule_start(self.plain, number);
-        let Some((found, _)) = whence(alloc, self.text(), self.plain, start)? else {
+        let Some((found, _)) = whence_of(alloc, self.text(), self.plain, start)? else {
             return out.extend_from_slice(b"another rule".as_slice());
         };
         out.extend_from_slice(b"the rule in ".as_slice())?;
@@ -221,7 +221,7 @@ impl Origin {
             unfolded,
             plain,
         };
-        let Some((found, names)) = whence(alloc, retelling.text(), plain, at)? else {
+        let Some((found, names)) = whence_of(alloc, retelling.text(), plain, at)? else {
             return Ok(None);
         };
         let words = retelling.said(alloc, found.generic, &names, sentence)?;

@@ -2,8 +2,8 @@
 
 use crate::fault::{LetReason, RichFault, ShorthandReason};
 use crate::lets::{Lets, Letting};
-use crate::segments::{Segment, after_blanks, part_of};
-use crate::signs::{Sign, Signs, declares};
+use crate::segments::{Segment, after_blanks, leading_word, part_of};
+use crate::signs::{Sign, Signs, declares, is_generic};
 use crate::tokens::{Kind, Token, first_token, first_word, kind_of};
 use crate::written::Written;
 use ic_text::is_blank;
@@ -47,6 +47,8 @@ pub(crate) struct Shorthands<'t> {
     letting: Option<Letting<'t>>,
     /// The segment that is written.
     segment: Segment,
+    /// The word of a line such as `copy Dup`, if it is one.
+    generic: Option<&'t [u8]>,
     open: Vec<Open>,
     before: Before,
     /// Whether a configuration has begun.
@@ -97,6 +99,7 @@ impl<'t> Shorthands<'t> {
                 to: 0,
                 within: false,
             },
+            generic: None,
             open: Vec::new(alloc),
             before: Before::Other,
             has_begun: false,
@@ -159,6 +162,8 @@ impl<'t> Shorthands<'t> {
     /// Writes a segment without shorthands.
     fn put_part(&mut self, segment: Segment) -> Result<(), RichFault> {
         self.segment = segment;
+        let word = leading_word(segment.part_of(self.text));
+        self.generic = (segment.within && is_generic(word)).then_some(word);
         self.open.clear();
         self.before = Before::Other;
         let mut next = segment.from;
@@ -353,7 +358,8 @@ impl<'t> Shorthands<'t> {
         Ok(next)
     }
 
-    /// Writes a `,`, and in a list the opening of the next term. At the end of a configuration it stands for nothing.
+    /// Writes a `,`, and in a list the opening of the next term. At the end of a configuration it stands for nothing, and in a line
+    /// such as `copy Dup, Era` a further one begins with it.
     fn put_comma(&mut self, token: Token, next: usize) -> Result<usize, RichFault> {
         match self.open.pop() {
             Some(Open::List(count)) => {
@@ -375,8 +381,20 @@ impl<'t> Shorthands<'t> {
                 self.put_token(token, next, Before::Other)
             }
             None if self.is_end(next) => Ok(next),
-            None => self.put_token(token, next, Before::Other),
+            None => match self.generic {
+                Some(word) => self.put_further(token, word, next),
+                None => self.put_token(token, next, Before::Other),
+            },
         }
+    }
+
+    /// Writes a further line in the place of a `,` in one such as `copy Dup`.
+    fn put_further(&mut self, token: Token, word: &[u8], next: usize) -> Result<usize, RichFault> {
+        self.written.put_made(b";".as_slice(), token.at)?;
+        self.written.put_made(word, token.at)?;
+        self.written.put_made(b" ".as_slice(), token.at)?;
+        self.before = Before::Other;
+        Ok(next)
     }
 
     /// Whether a configuration ends at a place, but for blanks.

@@ -42,10 +42,14 @@ pub(crate) fn declares(text: &[u8], segment: Segment) -> bool {
     segment.within && (Sort::of(word).is_some() || word == b"use".as_slice())
 }
 
+/// Whether a word has a line stand for the rules of copiers or erasers.
+pub(crate) fn is_generic(word: &[u8]) -> bool {
+    word == b"copy".as_slice() || word == b"erase".as_slice()
+}
+
 /// Whether a segment holds for the whole text: a declaration, or one of a copier or an eraser.
 pub(crate) fn is_line(text: &[u8], segment: Segment) -> bool {
-    let word = leading_word(segment.part_of(text));
-    declares(text, segment) || word == b"copy".as_slice() || word == b"erase".as_slice()
+    declares(text, segment) || is_generic(leading_word(segment.part_of(text)))
 }
 
 /// Two symbols. Of a pair both are the same.

@@ -3,7 +3,7 @@
 
 use crate::fault::{NestReason, Reason, RichFault};
 use crate::fresh::Fresh;
-use crate::holes::{Hole, missing};
+use crate::holes::{Hole, missing_in};
 use crate::nodes::{MAX_ARGUMENTS, Node, Row, without};
 use crate::patterns::{Pattern, overlap};
 use crate::restoring::{Waiter, Waiters};
@@ -288,7 +288,7 @@ impl<'t> Splitting<'t> {
         token: usize,
         places: &BTreeMap<&'t [u8], usize>,
     ) -> Result<(), RichFault> {
-        let Some(missing) = missing(self.signs, places) else {
+        let Some(missing) = missing_in(self.signs, places) else {
             return Ok(());
         };
         match (self.patterns.get(rule), self.shares.get_mut(rule)) {

@@ -1,6 +1,7 @@
 //! Whence what stands in a plain text comes: the text without forms is gone through beside it.
 
 use crate::segments::{after_blanks, leading_word, part_of, second_of};
+use crate::signs::is_generic;
 use crate::tokens::first_word;
 use ic_text::is_blank;
 use std::alloc::{AllocError, Global};
@@ -69,11 +70,6 @@ fn rule_of(text: &[u8]) -> (&[u8], bool) {
         ),
         None => (text, false),
     }
-}
-
-/// Whether a word has a line stand for generic rules.
-fn is_generic(word: &[u8]) -> bool {
-    word == b"copy".as_slice() || word == b"erase".as_slice()
 }
 
 /// Whether a rule of a plain text is the one of a text, or the first one of a line such as `copy Dup`.
@@ -233,7 +229,7 @@ impl<'t> Walk<'t> {
 }
 
 /// Whence what stands at a place of a plain text comes, and the names of both texts, or nothing if they don't go on alike.
-pub(crate) fn whence<'t>(
+pub(crate) fn whence_of<'t>(
     alloc: Global,
     text: &'t [u8],
     plain: &'t [u8],
