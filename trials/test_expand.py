@@ -8,7 +8,7 @@ from program import IN_MEMORY, SEED, TOP, Trial, run
 
 MOST = 16_777_216
 SENTENCES = {
-    "text": "a text begins with { or <, and a comment with #; lines for serve aren't expanded",
+    "text": "a text begins with { or <, since rules stand in braces, and a comment with #; lines for serve aren't expanded",
     "word": "copy and erase need a symbol: A to Z or 0 to 9, and then letters and digits",
     "copier": "copy needs a symbol with two arguments, and this one has COUNT where it stands first",
     "eraser": "erase needs a symbol without arguments, and this one has COUNT where it stands first",
@@ -144,11 +144,23 @@ class Refused(Exception):
 
 
 # What a text has, outside its comments, that `test_rich.py` tries and the model doesn't know.
-FORM = re.compile(rb"=[ \t\r\n]*>|;[ \t\r\n]*\}|,[ \t\r\n]*>|[\[^]|(?<![\w-])(number|list|pair|let)(?![\w-])")
+FORM = re.compile(
+    rb"=[ \t\r\n]*>|;[ \t\r\n]*\}|,[ \t\r\n]*>|[\[^~]|(?<![\w-])(number|list|pair|let)(?![\w-])"
+    rb"|[{;][ \t\r\n]*(copy|erase)(?![\w-])[ \t\r\n]*([\w-]+|[^\w \t\r\n{;-])[ \t\r\n]*,"
+)
 
 
 def has_form(text):
-    return FORM.search(re.sub(rb"#[^\n]*", b"", text)) is not None
+    body = re.sub(rb"#[^\n]*", b"", text)
+    return FORM.search(body) is not None or has_several(body)
+
+
+def has_several(body):
+    """Whether several configurations follow the rules of a text."""
+    after = body.rpartition(b"}")[2]
+    after = b"" if b"{" in after and b"}" not in body else after
+    places = [it.start() for it in re.finditer(rb"(?<!<)<(?!<)", after)]
+    return len(places) > 1 and all(b">" in after[one:other] for one, other in zip(places, places[1:]))
 
 
 def model(text):

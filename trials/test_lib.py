@@ -8,7 +8,7 @@ import rich
 from program import IN_MEMORY, SEED, TOP, Trial, run
 
 LIB = TOP / "lib"
-NAMES = ["bool", "binary", "church", "list", "nat", "pair", "sk", "sort", "tree"]
+NAMES = ["bool", "binary", "church", "lambda", "list", "nat", "pair", "sk", "sort", "tree", "turing"]
 
 # How the answers in the heads are read: what numbers, lists and pairs stand for.
 FORMS = "{number S Z; list Cons Nil; pair Pair} "
@@ -52,6 +52,108 @@ def tree(draw, entries):
     return f"Node({left},{entry},{right})", f"Node({right_mirror},{entry},{left_mirror})", 1 + max(left_depth, right_depth)
 
 
+# Terms of lambda calculus: a variable or an agent, a pair of a variable and a body, or of a function and what it is applied to.
+
+
+def applied(function, *terms):
+    for term in terms:
+        function = ("apply", function, term)
+    return function
+
+
+def church(number):
+    """Church's numeral."""
+    body = "x"
+    for _ in range(number):
+        body = applied("f", body)
+    return ("lambda", "f", ("lambda", "x", body))
+
+
+def function(*words):
+    """A function of all but the last of these."""
+    body = words[-1]
+    for word in reversed(words[:-1]):
+        body = ("lambda", word, body)
+    return body
+
+
+SUM = function("m", "n", "s", "z", applied("m", "s", applied("n", "s", "z")))
+PRODUCT = function("m", "n", "s", applied("m", applied("n", "s")))
+FIRST = function("a", "b", "a")
+TWICE = function("m", applied(SUM, "m", "m"))
+
+
+def drawn_numeral(draw, depth):
+    """A term that comes to a numeral, and its number."""
+    kind = draw.randint(0, 5 if depth else 0)
+    if kind < 2:
+        number = draw.randint(0, 3)
+        return church(number), number
+    (one, x), (other, y) = drawn_numeral(draw, depth - 1), drawn_numeral(draw, depth - 1)
+    return {2: (applied(SUM, one, other), x + y), 3: (applied(PRODUCT, one, other), x * y), 4: (applied(FIRST, one, other), x), 5: (applied(TWICE, one), 2 * x)}[kind]
+
+
+def net_of(term):
+    """A term as lambda.rich writes it."""
+    names = (f"v{k}" for k in range(10**6))
+
+    def written(term, variables):
+        if isinstance(term, str):
+            if term not in variables:
+                return term
+            variables[term].append(next(names))
+            return variables[term][-1]
+        kind, one, other = term
+        if kind == "apply":
+            return f"Ap({written(one, variables)},{written(other, variables)})"
+        stands = []
+        body = written(other, {**variables, one: stands})
+        variable = stands.pop() if stands else "Era"
+        for stand in reversed(stands):
+            variable = f"Two({stand},{variable})"
+        return f"Lam({variable},{body})"
+
+    return written(term, {})
+
+
+# The machine of turing.rich: what it writes, whether it goes right, and its next state, for each state and symbol.
+MACHINE = {("A", 0): (1, True, "B"), ("A", 1): (1, True, ""), ("B", 0): (0, True, "C"), ("B", 1): (1, True, "B"), ("C", 0): (1, False, "C"), ("C", 1): (1, False, "A")}
+
+
+def halted(left, right, most=2000):
+    """The two sides of the tape where the machine halts, or none if it doesn't in so many steps. The cell beside the head is first."""
+    state, left, right = "A", list(left), list(right)
+    for _ in range(most):
+        if not state:
+            return left, right
+        symbol = right.pop(0) if right else 0
+        symbol, is_right, state = MACHINE[state, symbol]
+        if is_right:
+            left.insert(0, symbol)
+        else:
+            right[:0] = [left.pop(0) if left else 0, symbol]
+    return None
+
+
+def tape(cells):
+    text = "End"
+    for cell in reversed(cells):
+        text = f"{'OI'[cell]}({text})"
+    return text
+
+
+def cells_of(text):
+    """The cells of a side of a tape, up to the last 1."""
+    return [int(it == "I") for it in re.findall(r"[OI](?=\()", text.rpartition("I")[0] + "I(" * ("I" in text))]
+
+
+def ones_last(cells):
+    """The same of cells."""
+    while cells and not cells[-1]:
+        cells = cells[:-1]
+    return cells
+
+
 class Library(Trial):
     rooms = IN_MEMORY
     seconds = 60
@@ -93,7 +195,7 @@ class Library(Trial):
 
     def test_each_rich_example_answers_as_the_plain_one_beside_it(self):
         tried = [it for it in TOP.glob("examples/*.rich") if it.with_suffix(".ic").exists()]
-        self.equals("examples/", "rich ones beside plain ones", 8, len(tried))
+        self.equals("examples/", "rich ones beside plain ones", 9, len(tried))
         for path in tried:
             words = ("reduce", "--rounds", 9) if path.stem == "unending" else ("reduce",)
             plain = run(*words, path.with_suffix(".ic"))
@@ -111,10 +213,10 @@ class Library(Trial):
         for _ in range(12):
             x, y = (draw.randrange(2 ** draw.randint(0, 9)) for _ in range(2))
             one, other = binary(draw, x), binary(draw, y)
-            net = f"<a,b,c,d|Add({other},a)={one},Mul({other},b)={one},Cmp(Eq,{other},c)={one},Inc(d)={one}>"
+            net = f"<a,b,c,d,e|Add({other},a)={one},Mul({other},b)={one},Cmp(Eq,{other},c)={one},Inc(d)={one},Sub({other},e)={one}>"
             answers = self.answer("binary", net).strip("<|>\n").split(",")
-            wanted = (x + y, x * y, order(x, y), x + 1)
-            self.equals(net, "what it comes to", wanted, (value_of(answers[0]), value_of(answers[1]), answers[2], value_of(answers[3])))
+            wanted = (order(x, y), x + y, x * y, x + 1, max(x - y, 0))
+            self.equals(net, "what it comes to", wanted, (answers.pop(2), *map(value_of, answers)))
 
     def test_truth_values(self):
         for x in (True, False):
@@ -167,3 +269,22 @@ class Library(Trial):
         two = "Lam(D(App(one,more),App(x,one)),Lam(x,more))"
         for number in (0, 1, 5):
             self.comes_to("church", f"<r,u,v|{two}=App(Count,App({number},r)),E(u,v)=A>", f"{number + 2},A,A")
+
+    def test_terms_of_lambda_calculus(self):
+        draw = random.Random(f"{SEED} lambda")
+        for _ in range(20):
+            term, number = drawn_numeral(draw, 3)
+            self.comes_to("lambda", f"<r|Eval(r)={net_of(applied(term, 'Succ', 'Z'))}>", f"{number}")
+        for base in range(4):
+            for power in range(1, 4):
+                self.comes_to("lambda", f"<r|Eval(r)={net_of(applied(church(power), church(base), 'Succ', 'Z'))}>", f"{base**power}")
+
+    def test_a_turing_machine(self):
+        draw = random.Random(f"{SEED} turing")
+        for _ in range(20):
+            left, right = ([draw.randint(0, 1) for _ in range(draw.randint(0, 6))] for _ in range(2))
+            wanted = halted(left, right)
+            if wanted:
+                net = f"<r|AR({tape(left)},r)={tape(right)}>"
+                sides = re.fullmatch(r"<Tape\((.*),(.*)\)\|>\n", self.answer("turing", net))
+                self.equals(net, "both sides of its tape", tuple(map(ones_last, wanted)), (cells_of(sides[1]), cells_of(sides[2])))

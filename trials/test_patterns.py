@@ -106,11 +106,32 @@ class Worked(Trial):
     def test_an_agent_that_waits_is_told_as_what_it_was(self):
         rules = "{number S Z; Half(r)><0=>r~0; Half(r)><1=>r~0; Half(r)><S^2(n)=>Half(w)~n,r~S(w)}"
         for net, wanted in (
-            ("<r,x|Half(r)=S(x)>", "<r,s|Half(r)=S(s)>"),
-            ("<r,x|Half(r)=S^5(x)>", "<S^2(r),s|Half(r)=S(s)>"),
-            ("<half,x|Half(half)=S(x)>", "<half,y|Half(half)=S(y)>"),
+            ("<r,x|Half(r)=S(x)>", "<a,b|Half(a)=S(b)>"),
+            ("<r,x|Half(r)=S^5(x)>", "<S^2(a),b|Half(a)=S(b)>"),
+            ("<half,x|Half(half)=S(x)>", "<a,c|Half(a)=S(c)>"),
         ):
             self.runs("reduce", "--rich", given=rules + net, out=[wanted])
+
+    def test_check_warns_of_holes(self):
+        """Of one in each rule, at its place; a file's one at its `use`. It tells no rules of agents that wait."""
+        for rules, place, sentence in (
+            ("{number S Z;\n F(r) >< S(S(n)) => r~n}", "2:12", "rules have S here, and none has Z: F(r)><S(Z) has no rule"),
+            ("{number S Z;\n F(r) >< S^9(n) => r~n}", "2:10", "rules have S here, and none has Z: F(r)><S(Z) has no rule"),
+            ("{number S Z; list C N;\n F(r) >< [x] => r~x}", "2:12", "rules have N here, and none has C: F(r)><C(x,C(..)) has no rule"),
+            ("{number S Z;\n F(A,r) >< S(0) => r~Z; F(B,r) >< S(Z) => r~Z; F(B,r) >< S(S(x)) => r~x}", "2:14", "rules have Z here, and none has S: F(A,r)><S(S(..)) has no rule"),
+        ):
+            ran = run("check", "--rich", "-", given=rules + "\n<r|F(r)=S(S(Z))>")
+            holes = [it for it in ran.out.decode().splitlines() if "here, and none" in it]
+            self.equals(ran.command, "its holes", [f"-:{place}: warning: {sentence}"], holes)
+        for text in ("{number S Z; F(r) >< S(S(n)) => r~n; F(r) >< S(Z) => r~Z} <r|F(r)=3>", "{F(r) >< S(S(n)) => r~n} <r|F(r)=S(S(Z))>"):
+            ran = run("check", "--rich", "-", given=text)
+            self.equals(ran.command, "whether it tells a hole", False, b"here, and none" in ran.out)
+            self.equals(ran.command, "whether it tells an agent that waits", False, b"FS" in ran.out)
+        (self.room / "deep.rich").write_text("{number S Z;\n F(r) >< S(S(n)) => r~n}\n<|>")
+        path = self.room / "main.rich"
+        path.write_text('{\n use "deep.rich"}\n<r|F(r)=3>')
+        wanted = f"{path}:2:2: warning: in {self.room}/deep.rich, line 2: rules have S here, and none has Z: F(r)><S(Z) has no rule\n"
+        self.equals("check of a file", "whether its hole is told", True, wanted in run("check", path).out.decode())
 
     def test_files_with_patterns_are_used(self):
         (self.room / "half.rich").write_text("{number S Z; list C N; Half(r)><0=>r~0; Half(r)><1=>r~0;\n Half(r)><S^2(n)=>Half(w)~n,r~S(w);\n Last(r)><[x]=>r~x; Last(r)><[x,y|l]=>x~Era,l~After(y,r); After(y,r)><[]=>r~y; After(y,r)><[x|l]=>y~Era,l~After(x,r); erase Era}\n<|>")
@@ -119,8 +140,9 @@ class Worked(Trial):
         self.runs("reduce", path, out=["<3,3|>"])
         path.write_text('{\nuse "half.rich"; Half(r)><S(n)=>r~n} <a|Half(a)=7>')
         ran = run("reduce", path)
-        told = (1, "line 2, column 18", f"some agents are as the patterns of two rules say, of this one and of that in {self.room}/half.rich, line 1")
-        self.equals(ran.command, "how it ends", told, (ran.status, (ran.err + ran.after).decode().splitlines()[1].split(", ", 1)[1], ran.after.decode().splitlines()[-1]))
+        told = (1, f"{path}, line 2, column 18", f"some agents are as the patterns of two rules say, of this one and of that in {self.room}/half.rich, line 1")
+        lines = (ran.err + ran.after).decode().splitlines()
+        self.equals(ran.command, "how it ends", told, (ran.status, lines[1], lines[-1]))
 
 
 class Drawn(Trial):

@@ -87,6 +87,11 @@ class Calls(Package):
         fault = self.raised(self.icserve.Refusal, self.icserve.resume, self.room / "none")
         self.equals("no file", "the refusal", ("device", 3), (fault.name, fault.status))
 
+    def test_rich_texts(self):
+        self.raised(ValueError, self.icserve.reduce, "#rich\n{A><B} <|A=B> <|>")
+        found = self.icserve.check("#rich\n{A><B}\n let a = A\n<|A=B>")
+        self.equals("check", "what it finds", [(False, "let a is used nowhere", 3, 6, None)], [tuple(it) for it in found])
+
     def test_a_reduction_is_kept_and_goes_on(self):
         text = f"{ADD} <r|Add(r,{'S(' * 999}Z{')' * 999})={'S(' * 999}Z{')' * 999}>"
         cut = self.icserve.reduce(text, steps=100, keep=self.room / "kept")

@@ -23,12 +23,13 @@ RETOLD = {
 class Retold(Trial):
     rooms = IN_MEMORY
 
-    def told(self, *words, given, line, column):
+    def retold(self, *words, given, line, column):
         """What is told of a text that is refused at a place: the sentence. The line stands there as it was written."""
         ran = run(*words, given=given)
         lines = (ran.err + ran.after).decode().splitlines()
-        shown = given.splitlines()[line - 1].strip()
-        self.equals(ran.command, "how it ends", (1, b"", f"line {line}, column {column}", shown), (ran.status, ran.out, lines[1], lines[2].strip()))
+        shown = lines[2].strip().strip(".")
+        self.equals(ran.command, "how it ends", (1, b"", f"line {line}, column {column}"), (ran.status, ran.out, lines[1]))
+        self.equals(ran.command, f"whether the line is shown: {shown}", True, shown in given.splitlines()[line - 1])
         self.equals(ran.command, "how many lines are told", 5, len(lines))
         return lines[-1]
 
@@ -36,13 +37,13 @@ class Retold(Trial):
         for name, (text, (line, column), sentence) in RETOLD.items():
             for words in (("reduce",), ("once",), ("trace",), ("draw",)):
                 with self.subTest(name=name, words=words):
-                    told = self.told(*words, "--rich", given=text, line=line, column=column)
+                    told = self.retold(*words, "--rich", given=text, line=line, column=column)
                     self.equals(text, "what is told", sentence or told, told)
 
     def test_rules_of_copiers_are_told_by_their_line(self):
         """Each of the symbols is met first in a rule by which it is copied, and the 65th is one too many."""
         text = "{\n copy Dup; " + ";".join(f"A{k}><B{k}" for k in range(40)) + "}\n<x,y|Dup(x,y)=A0>"
-        told = self.told("reduce", "--rich", "--limits", "served", given=text, line=2, column=2)
+        told = self.retold("reduce", "--rich", "--limits", "served", given=text, line=2, column=2)
         self.equals("copy", "how it begins to tell", "copy Dup, for B31: ", told[:19])
 
     def test_a_fault_in_a_file_is_told_with_its_line(self):
@@ -63,6 +64,7 @@ class Retold(Trial):
             front = draw.choice(["q_7,", "(q_7,q_7),", "[A7,1],"])
             fault = {"q_7,": "T7(q_7, A7, q_7),", "(q_7,q_7),": "q_7,", "[A7,1],": "A7(q_7),"}[front]
             shift = {"q_7,": 12, "(q_7,q_7),": 0, "[A7,1],": 0}[front]
+            fault = fault[:-1] if text[at:].lstrip().startswith("|") else fault
             spoilt = text[:at] + front + fault + text[at:]
             line, column = place_in(spoilt, at + len(front) + shift)
-            self.told("reduce", "--rich", given=spoilt, line=line, column=column)
+            self.retold("reduce", "--rich", given=spoilt, line=line, column=column)

@@ -239,6 +239,9 @@ class Drawn(Trial):
             shown = re.sub(r"#[^\n]*", lambda it: " " * len(it[0]), text)
             kind, spoilt, shift = draw.choice(FORM_FAULTS)
             at = shown.rindex("<") + 1
+            # Some have a configuration before that one, which is sound.
+            before = draw.choice(["", "", "<|>", "<q_1,\n x|q_1=Z> "])
+            text, at = text[: at - 1] + before + text[at - 1 :], at + len(before)
             return text[:at] + spoilt + draw.choice(["", ","]) + text[at:], kind, place_in(text[:at] + spoilt, at + shift)
         rules = [arrow for _, arrow in self.rules(draw, draw.randint(1, 3))]
         spoilt, kind, at = faulty(draw, rules[-1])

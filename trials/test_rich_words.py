@@ -127,7 +127,7 @@ class Rich(Trial):
 
     def test_each_rich_example_answers_as_the_plain_one_beside_it(self):
         tried = [it for it in TOP.glob("examples/*.rich") if it.with_suffix(".ic").exists()]
-        self.equals("examples/", "rich ones beside plain ones", 8, len(tried))
+        self.equals("examples/", "rich ones beside plain ones", 9, len(tried))
         for path in tried:
             words = ("reduce", "--rounds", 9) if path.stem == "unending" else ("reduce",)
             plain = run(*words, path.with_suffix(".ic"))

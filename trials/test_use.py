@@ -1,8 +1,11 @@
 """`use "FILE"` in rich texts: which rules come, once each, from which folder, and what is refused, at which places."""
 
+import random
 import shutil
 
-from program import IN_MEMORY, PROGRAM, TOP, Trial, run
+import rich
+from program import IN_MEMORY, PROGRAM, SEED, TOP, Trial, run
+from test_rich import SHORT_SYMBOLS, WORDS
 
 NAT = "{number S Z;\n Add(y,r) >< Z => r ~ y;\n Add(y,r) >< S(x) => Add(S(y),r) ~ x}\n<r|Add(1,r)=1>\n"
 
@@ -137,3 +140,24 @@ class Use(Trial):
 
     def test_use_is_a_name_elsewhere(self):
         self.runs("expand", given="{A><B} <use|use=use1>", out="{A><B} <a|a=b>")
+
+    def test_drawn_rules_in_several_files_are_those_of_one(self):
+        draw = random.Random(f"{SEED} files")
+        for number in range(30):
+            _, text = rich.drawn_shorthands(draw, SHORT_SYMBOLS, WORDS, draw.randint(1, 8))
+            text = rich.uncommented(text)
+            end = text.rindex("}")
+            rules = [it for it in text[1:end].split(";") if it.strip()]
+            folder = draw.choice(["", "rules/"])
+            parts = [[], [], []]
+            for rule in rules:
+                parts[draw.randint(0, 2)].append(rule)
+            self.file(f"{number}/{folder}one.rich", "{" + ";".join([*parts[1], 'use "two.rich"']) + "}<|>")
+            self.file(f"{number}/{folder}two.rich", "#rich\n{" + ";".join(parts[2]) + draw.choice(["", ";"]) + "}")
+            uses = [f'use "{folder}one.rich"', f' use "{folder}two.rich" '][: draw.randint(1, 2)]
+            own = parts[0] + uses
+            draw.shuffle(own)
+            path = self.file(f"{number}/main.rich", "{" + ";".join(own) + text[end:])
+            ends = [run("reduce", "--plain", "--workers", 1, "--steps", 300, *more, given=given) for more, given in ((["--rich"], text), ([path], ""))]
+            self.equals(ends[1].command, "how both end", ends[0].status, ends[1].status)
+            self.equals(ends[1].command, "what they come to", *(rich.canonical(it.out.decode()) for it in ends))

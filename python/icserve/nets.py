@@ -50,7 +50,7 @@ class Row(NamedTuple):
 
 
 class Finding(NamedTuple):
-    """What `check` tells of a text: a fault with its place, or a warning, which has none."""
+    """What `check` tells of a text: a fault with its place, or a warning, which has one only of a rich text."""
 
     is_fault: bool
     told: str
@@ -62,6 +62,8 @@ class Finding(NamedTuple):
 def answer_of(ran: Ran) -> Answer:
     ran.well(5)
     text = ran.out.rstrip("\n")
+    if "\n" in text:
+        raise ValueError("the text has several configurations, and an answer is that of one")
     figures = json.loads(next(it for it in ran.err.split("\n") if it.startswith("{")))
     by_rule: Dict[str, int] = {}
     for it in figures["by_rule"]:
@@ -150,7 +152,7 @@ def check(text: str) -> List[Finding]:
 
 def finding_of(told: Dict[str, Any]) -> Finding:
     if "warning" in told:
-        return Finding(False, told["warning"])
+        return Finding(False, told["warning"], told.get("line"), told.get("column"))
     return Finding(True, told["sentence"], told["line"], told["column"], told["fault"])
 
 

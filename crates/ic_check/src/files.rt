@@ -4,7 +4,8 @@ ghost use Rattle.std.specs.Prelude.{◌≡◌, ◌⊎◌, [], ◌∷◌, ℕ, Li
 ghost use Rattle.ic_check.specs.Files.{Content, Grows, LooksOver, content_of, worse};
 ghost use Rattle.ic_check.specs.inner.Verdicts.{verdict_by};
 
-use crate::findings::Layout;
+use crate::findings::{Finding, Layout, put_finding};
+use crate::remarks::placed;
 use crate::texts::{check_given, check_refused};
 use crate::writing::Style;
 use ic_causes::shown_path;
@@ -123,6 +124,28 @@ fn check_file<S: Source, W: Write>(
             Ok(Verdict::Unread)
         }
     }
+}
+
+/// Appends what is told of a warning at a place of the text that the file of this path has.
+pub fn put_warning(
+    alloc: Global,
+    layout: Layout,
+    path: &str,
+    text: &[u8],
+    at: usize,
+    words: &[u8],
+    out: &mut Vec<u8>,
+) -> Result<(), AllocError> {
+    let shown = shown_path(alloc, path.as_bytes())?;
+    let style = style_of(layout, &shown, path.as_bytes());
+    let placed = placed(text, None, at, TextFault::Syntax, words.to_vec(alloc)?);
+    let warning = Finding {
+        line: placed.line,
+        column: placed.column,
+        fault: None,
+        words: placed.words,
+    };
+    put_finding(alloc, layout, style.file, &warning, out)
 }
 
 /// How a file is told of, the path of which is shown so.

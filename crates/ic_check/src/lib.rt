@@ -26,7 +26,7 @@ mod warnings;
 mod words;
 mod writing;
 
-pub use files::{Given, Refused, Source, Verdict, check_files};
+pub use files::{Given, Refused, Source, Verdict, check_files, put_warning};
 pub use findings::Layout;
 pub use lines::{check_line, check_script_line};
 pub use sessions::tell_refusals;

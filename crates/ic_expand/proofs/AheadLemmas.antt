@@ -1,5 +1,5 @@
 -- What stands ahead in a text: lists of it, and how they are found from the last byte on.
-use Rattle.std.proofs.Common.{◌≡◌, ℕ, zero, suc, ◌+◌, ◌-◌, ◌<◌, ◌≤◌, ◌==◌, ◌&&◌, ◌⊎◌, ◌^◌, Bool, true, false, cond, List, [], ◌∷◌, ◌++◌, Option, take, drop, get_or, length, length-append, refl, sym, ap, ap₂, ◌∙◌, subst, inl, inr, arith}
+use Rattle.std.proofs.Common.{◌≡◌, ℕ, zero, suc, ◌+◌, ◌-◌, ◌<◌, ◌≤◌, ◌==◌, ◌&&◌, ◌⊎◌, Bool, true, false, cond, List, [], ◌∷◌, ◌++◌, take, drop, get_or, length, length-append, refl, sym, ap, ap₂, ◌∙◌, inl, inr, arith}
 use Rattle.std.specs.List.{list_all, position}
 use Rattle.std.specs.Str.{bytes_eq}
 use Rattle.std.proofs.lemmas.Bool.{eqb-true, and_parts}
@@ -7,7 +7,7 @@ use Rattle.std.proofs.lemmas.Bool.Decides.{nat_tests}
 use Rattle.ic_text.specs.Token.{is_blank}
 use Rattle.ic_expand.specs.Pieces.{first_byte, joins}
 use Rattle.ic_expand.specs.Reading.{arguments, beyond, commas, leading_word, partner}
-use Rattle.ic_expand.specs.inner.Ahead.{arguments_by, counts_of, levels, marks, side, sides_of, with_level}
+use Rattle.ic_expand.specs.inner.Ahead.{arguments_by, counts_of, levels, marks, side, sides_of}
 use Rattle.ic_expand.specs.inner.Given.{last_side}
 
 -- ---- the last of a list

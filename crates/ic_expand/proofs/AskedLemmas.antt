@@ -1,9 +1,8 @@
 -- What is known of a copier or an eraser that isn't refused, and the rules that it gets.
-use Rattle.std.proofs.Common.{◌≡◌, ℕ, suc, ◌<◌, ◌==◌, ◌&&◌, ◌||◌, not, Bool, true, false, cond, List, [], ◌∷◌, ◌++◌, Option, None, Some, option_map, is_some, filter, length, map, slice_get, refl, sym, ap, ◌∙◌, subst, append_assoc}
+use Rattle.std.proofs.Common.{◌≡◌, ℕ, suc, ◌&&◌, ◌||◌, not, Bool, true, false, cond, List, [], ◌∷◌, ◌++◌, Option, None, Some, option_map, is_some, filter, slice_get, refl, sym, ap, ◌∙◌, subst, append_assoc}
 use Rattle.std.specs.List.{list_any, position, AllByRecursion}
 use Rattle.std.specs.Str.{bytes_eq}
 use Rattle.std.specs.Cmp.Lexicographic.{bytes_decides}
-use Rattle.std.specs.BTreeSet.{BTreeSet, contains}
 use Rattle.ic_term.specs.Symbol.{Symbol, fits_limits, texts}
 use Rattle.ic_expand.specs.declared.fault.Reason.{Reason}
 use Rattle.ic_expand.specs.declared.fault.Reason.TheVariants.{Again, NoRules}
@@ -13,7 +12,6 @@ use Rattle.ic_expand.specs.declared.writing.Sheet.{Sheet as Found}
 use Rattle.ic_expand.specs.Names.{is_among}
 use Rattle.ic_expand.specs.Generic.{is_of, is_wanted}
 use Rattle.ic_expand.specs.Expanding.{Sheet, arity_in, is_for, lack_of, refused_at, unless_some, wanted}
-use Rattle.ic_expand.specs.inner.Given.{AreGiven}
 use Rattle.ic_expand.specs.inner.Sheets.{IsSheet, gives, is_missing, sheet_in}
 use Rattle.ic_expand.proofs.Placed.{any_position, position-cons}
 use Rattle.ic_expand.proofs.GivenLemmas.{given_is}

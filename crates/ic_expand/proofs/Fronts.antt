@@ -1,16 +1,9 @@
 -- What is read of a text that may be rich: its front, and all of it.
-use Rattle.std.proofs.Common.{◌≡◌, ◌≢◌, ℕ, ◌≤◌, Bool, true, false, ◌||◌, List, [], ◌∷◌, ◌++◌, Option, None, Some, Result, Ok, Err, length, refl, sym, ap, subst, ◌∙◌, append-nil, arith}
-use Rattle.std.specs.Prelude.{IfErr}
-use Rattle.std.specs.Result.{IsErrAnd}
+use Rattle.std.proofs.Common.{◌≡◌, ℕ, ◌≤◌, Bool, true, false, ◌||◌, List, [], ◌∷◌, ◌++◌, Option, None, Some, length, refl, sym, ap, subst, ◌∙◌, append-nil, arith}
 use Rattle.std.specs.Io.KnownBytes.{prepend_known}
-use Rattle.ic_streams.specs.Streams.{FaultOf}
-use Rattle.ic_streams.specs.declared.fault.StreamFault.{StreamFault}
-use Rattle.ic_streams.specs.declared.fault.StreamFault.TheVariants.{Read, Text, Round, Memory, Write}
 use Rattle.ic_expand.specs.Marks.{is_marked, is_rich}
-use Rattle.ic_expand.specs.Opening.{IsUnopened}
-use Rattle.ic_expand.specs.Streams.{Expands, TakesWhole}
+use Rattle.ic_expand.specs.Streams.{TakesWhole}
 use Rattle.ic_expand.specs.inner.Causes.{TakesFront}
-use Rattle.ic_expand.proofs.Streaming.{expands_whole}
 
 -- whether a text is marked, its first six bytes tell
 mark_of_front : (front rest : List ℕ) → 6 ≤ length front → is_marked (front ++ rest) ≡ is_marked front
@@ -47,26 +40,6 @@ pub left_whole : (text : List ℕ) (old new left : Option (List ℕ)) (front : L
 left_whole text old new left front whole takes going all is =
     left_of_known text new left front whole (subst (λ (o : Option (List ℕ)). TakesFront front whole o new) is takes) going all
 
--- what is expanded of what was read is that of the text
-pub expands_left : (text seen given : List ℕ) (left new : Option (List ℕ)) (answer : Result (List ℕ) StreamFault) → left ≡ Some text
-    → TakesWhole seen left new → given ≡ seen → Expands given answer → Expands text answer
-expands_left text seen given left new answer is takes same expands =
-    expands_whole text seen new answer (subst (λ (o : Option (List ℕ)). TakesWhole seen o new) is takes)
-    (subst (λ (s : List ℕ). Expands s answer) same expands)
-
-fault_left : (said : Bool) (text seen given : List ℕ) (left new : Option (List ℕ)) (fault : StreamFault) → is_rich said text ≡ true → left ≡ Some text
-    → TakesWhole seen left new → given ≡ seen → FaultOf Expands given fault → fault ≢ Write → IsUnopened said text fault
-fault_left said text seen given left new (Text fault) rich is takes same refused other =
-    (rich, expands_left text seen given left new (Err (Text fault)) is takes same refused)
-fault_left said text seen given left new (Round fault) rich is takes same refused other = absurd refused
-fault_left said text seen given left new Write rich is takes same refused other = absurd (other refl)
-fault_left said text seen given left new Read rich is takes same refused other = tt
-fault_left said text seen given left new Memory rich is takes same refused other = tt
-
-module _ {T : Type 0} where
-  pub refused_left : (r : Result T StreamFault) (said : Bool) (text seen given : List ℕ) (left new : Option (List ℕ)) (fault : StreamFault) → is_rich said text ≡ true
-      → left ≡ Some text → TakesWhole seen left new → given ≡ seen → FaultOf Expands given fault → fault ≢ Write → IsErrAnd r (λ e. e ≡ fault)
-      → IfErr r (IsUnopened said text)
-  refused_left (Ok v) said text seen given left new fault rich is takes same refused other fails = absurd fails
-  refused_left (Err e) said text seen given left new fault rich is takes same refused other fails =
-      subst (IsUnopened said text) (sym fails) (fault_left said text seen given left new fault rich is takes same refused other)
+-- what was read after it was taken from the text
+pub takes_left : (text seen : List ℕ) (left new : Option (List ℕ)) → left ≡ Some text → TakesWhole seen left new → TakesWhole seen (Some text) new
+takes_left text seen left new is takes = subst (λ (o : Option (List ℕ)). TakesWhole seen o new) is takes

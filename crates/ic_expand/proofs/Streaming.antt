@@ -1,5 +1,5 @@
 -- What was taken from a reader, and what it says of all that the reader had.
-use Rattle.std.proofs.Common.{◌≡◌, ◌≢◌, ℕ, ◌+◌, ◌<◌, ◌≤◌, ◌&&◌, Bool, true, cond, List, [], ◌++◌, Option, None, Some, OnErr, Result, Ok, Err, length, length-append, append-nil, arith, nat_le, false, ◌∙◌, ap, refl, sym, inl, inr}
+use Rattle.std.proofs.Common.{◌≡◌, ◌≢◌, ℕ, ◌+◌, ◌<◌, ◌≤◌, ◌&&◌, Bool, true, cond, List, [], ◌++◌, Option, None, Some, OnErr, Result, Ok, Err, length, length-append, append-nil, arith, nat_le, false, ◌∙◌, ap, refl, subst, sym, inl, inr}
 use Rattle.std.specs.Prelude.{IfErr, OnOk}
 use Rattle.std.specs.Result.{IsErrAnd}
 use Rattle.std.proofs.KnownBytes.{Consumes-trans}
@@ -20,13 +20,19 @@ use Rattle.ic_expand.specs.Expanding.{body_expanded, expanded}
 use Rattle.ic_expand.specs.Forms.{has_form, have_form}
 use Rattle.ic_expand.specs.declared.spot.Spot.TheVariants.{Elsewhere}
 use Rattle.ic_expand.specs.Pieces.{pieces}
-use Rattle.ic_expand.specs.Streams.{Expands, IsRefusedWith, IsWrittenAs, TakesSome, TakesWhole}
+use Rattle.ic_expand.specs.Streams.{Expands, IsRefusedWith, IsWrittenAs, TakesAt, TakesSome, TakesWhole}
 
 -- two reads, one after the other
 pub taken_more : {T E : Type 0} (r : Result T E) (a b c : Option (List ℕ)) (xs ys : List ℕ) → Consumes a b xs → Consumes b c ys → length xs + length ys ≤ MAX_RICH_TEXT + 1
     → OnErr r (TakesSome a c)
 taken_more (Ok v) a b c xs ys p q bound = tt
 taken_more (Err e) a b c xs ys p q bound = (xs ++ ys, Consumes-trans a b c xs ys p q, rw length-append bound)
+
+-- a text that is taken whole, of which a writer fails to write what it stands for
+pub taken_unwritten : {T : Type 0} (r : Result T StreamFault) (old new : Option (List ℕ)) (text : List ℕ) → TakesWhole text old new
+    → IfErr r (λ fault. fault ≡ Write) → IfErr r (λ fault. TakesAt fault old new)
+taken_unwritten (Ok v) old new text takes is = tt
+taken_unwritten (Err fault) old new text takes is = subst (λ (f : StreamFault). TakesAt f old new) (sym is) (text, takes)
 
 -- ---- what is so of a front that was taken is so of the text
 

@@ -13,10 +13,10 @@ use Rattle.ic_expand.specs.declared.spot.Spot.TheVariants.{Elsewhere, Opening, A
 abbrev pub are_form : (before : ℕ) → ℕ → Bool
 are_form before b = (before == 61 && b == 62) || (before == 59 && b == 125) || (before == 44 && b == 62)
 
--- the marks and words of forms: of lists, powers and files, of declarations, and of terms with names
+-- the marks and words of forms: of lists, powers, equations and files, of declarations, and of terms with names
 abbrev pub is_form : List ℕ → Bool
-is_form p = bytes_eq p (codes "[") || bytes_eq p (codes "^") || bytes_eq p (codes "number")
-    || bytes_eq p (codes "list") || bytes_eq p (codes "pair") || bytes_eq p (codes "let") || bytes_eq p (codes "use")
+is_form p = bytes_eq p (codes "[") || bytes_eq p (codes "^") || bytes_eq p (codes "~")
+    || bytes_eq p (codes "number") || bytes_eq p (codes "list") || bytes_eq p (codes "pair") || bytes_eq p (codes "let") || bytes_eq p (codes "use")
 
 -- the byte that stands before what follows a piece, blanks apart
 abbrev pub after_piece : (before : ℕ) → List ℕ → ℕ

@@ -1,11 +1,10 @@
 -- What a word reads of the text that a reader gives (this project's choice).
-use Rattle.std.specs.Prelude.{◌≡◌, ℕ, List, Bool, true, false, Option, None, Some, Ok}
+use Rattle.std.specs.Prelude.{◌≡◌, ℕ, List, Bool, true, false, Option, Some, Ok}
 use Rattle.std.specs.Io.Chain.{chain_remaining}
 use Rattle.std.specs.Io.Cursor.{cursor_remaining}
-use Rattle.ic_streams.specs.declared.fault.StreamFault.{StreamFault}
-use Rattle.ic_streams.specs.declared.fault.StreamFault.TheVariants.{Read, Text, Round, Memory, Write}
-use Rattle.ic_expand.specs.Marks.{is_rich}
-use Rattle.ic_expand.specs.Streams.{Expands, IsRefusedWith}
+use Rattle.ic_expand.specs.Streams.{Expands, TakesWhole}
+use Rattle.ic_expand.specs.declared.opening.Begun.{Begun}
+use Rattle.ic_expand.specs.declared.opening.Begun.TheVariants as begun
 use Rattle.ic_expand.specs.declared.opening.Opened.{Opened}
 use Rattle.ic_expand.specs.declared.opening.Opened.TheVariants.{Going, Whole, Rich}
 
@@ -21,19 +20,17 @@ is_expanded (Going text) = false
 is_expanded (Whole text) = false
 is_expanded (Rich text wording) = true
 
--- of a text that isn't rich, all of it is read
-abbrev pub ReadsPlain : {R : Type 0} → (R → Option (List ℕ)) → List ℕ → Opened R → Type 0
-ReadsPlain rest text opened = (is_expanded opened ≡ false) × (left_of rest opened ≡ Some text)
+-- a text that isn't rich is read as it is
+abbrev pub BeginsPlain : {R : Type 0} → (R → Option (List ℕ)) → List ℕ → Begun R → Type 0
+BeginsPlain rest text (begun.Plain opened) = (is_expanded opened ≡ false) × (left_of rest opened ≡ Some text)
+BeginsPlain rest text (begun.Rich whole) = ⊥
 
--- of a rich text, what it is expanded to
+-- of a rich text all is read, or one byte more than one may have
+abbrev pub BeginsRich : {R : Type 0} → List ℕ → Begun R → Type 0
+BeginsRich text (begun.Plain opened) = ⊥
+BeginsRich text (begun.Rich whole) = (rest : Option (List ℕ)) × TakesWhole whole.items (Some text) rest
+
+-- of a rich text is read what it is expanded to
 abbrev pub ReadsRich : {R : Type 0} → (R → Option (List ℕ)) → List ℕ → Opened R → Type 0
 ReadsRich rest text opened = (is_expanded opened ≡ true)
     × (out : List ℕ) × (left_of rest opened ≡ Some out) × Expands text (Ok out)
-
--- a text isn't opened: a rich one is refused, or it can't be read, or memory ran out
-abbrev pub IsUnopened : (said : Bool) → List ℕ → StreamFault → Type 0
-IsUnopened said text (Text fault) = (is_rich said text ≡ true) × IsRefusedWith text fault
-IsUnopened said text (Round fault) = ⊥
-IsUnopened said text Write = ⊥
-IsUnopened said text Read = Unit {0}
-IsUnopened said text Memory = Unit {0}

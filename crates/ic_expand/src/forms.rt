@@ -27,6 +27,7 @@ fn is_form(piece: &[u8]) -> bool
 {
     piece == b"[".as_slice()
         || piece == b"^".as_slice()
+        || piece == b"~".as_slice()
         || piece == b"number".as_slice()
         || piece == b"list".as_slice()
         || piece == b"pair".as_slice()

@@ -1,6 +1,6 @@
 //! What is proved of the definitions alone: each law is the contract of a function that does nothing.
 
-ghost use Rattle.std.specs.Prelude.{◌≡◌, ◌≢◌, ◌<◌, ◌≤◌, ◌+◌, ◌==◌, ℕ, List, [], ◌∷◌, ◌++◌, Contains, Option, Result, Ok, Err, false, true, codes, length};
+ghost use Rattle.std.specs.Prelude.{◌≡◌, ◌≢◌, ◌<◌, ◌≤◌, ◌+◌, ◌==◌, ℕ, List, [], ◌∷◌, ◌++◌, Contains, Option, Some, Result, Ok, Err, false, true, codes, length};
 ghost use Rattle.std.specs.Io.KnownBytes.{Consumes, IsAtEnd};
 ghost use Rattle.std.specs.List.{concat, list_any, AllByRecursion};
 ghost use Rattle.ic_streams.specs.declared.fault.StreamFault.{StreamFault};
@@ -154,8 +154,10 @@ pub fn what_is_answered_is_what_is_expanded()
 {}
 
 /// A text that is answered or refused was taken from its reader: all that it had, or one byte more than a text may have. At any
-/// other fault no more was taken.
+/// other fault no more was taken. What is answered of what was taken is answered of the text.
 pub fn what_is_taken_is_the_text()
+    ensures opened { (text whole : List ℕ) (rest : Option (List ℕ)) (answer : Result (List ℕ) StreamFault)
+        → TakesWhole whole (Some text) rest → Expands whole answer → Expands text answer }
     ensures refused { (fault : TextFault) (old new : Option (List ℕ)) → TakesAt (Text fault) old new
         → (text : List ℕ) × TakesWhole text old new }
     ensures unwritten { (old new : Option (List ℕ)) → TakesAt Write old new

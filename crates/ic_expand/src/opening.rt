@@ -1,9 +1,11 @@
 //! What a word reads of the text that a reader gives: that text, or where it is rich what it is expanded to.
 
-ghost use Rattle.std.specs.Prelude.{◌≡◌, ◌⊎◌, ℕ, List, Some, IfOk, IfErr, OnOk, false, true};
+ghost use Rattle.std.specs.Prelude.{◌≡◌, ◌≢◌, ◌⊎◌, ℕ, List, Some, IfOk, IfErr, OnOk, false, true};
 ghost use Rattle.std.specs.Io.KnownBytes.{prepend_known};
+ghost use Rattle.ic_streams.specs.Streams.{FaultOf};
 ghost use Rattle.ic_expand.specs.Marks.{is_rich};
-ghost use Rattle.ic_expand.specs.Opening.{IsUnopened, ReadsPlain, ReadsRich, is_expanded, left_of};
+ghost use Rattle.ic_expand.specs.Opening.{BeginsPlain, BeginsRich, ReadsRich, is_expanded, left_of};
+ghost use Rattle.ic_expand.specs.Streams.{Expands};
 ghost use Rattle.ic_expand.specs.inner.Causes.{TakesFront};
 
 use crate::marks::{TELLING, is_marked};
@@ -70,32 +72,54 @@ impl<R: Read> Read for Opened<R> {
     }
 }
 
-/// Opens the text that a reader gives, which is rich where that is said, and where it begins with the word `#rich`. Any
-/// other one is read as it is; a rich one is read whole first, and of one that is refused `told` gets the lines.
-pub fn open_text<R: Read + Drop, F: Files>(
+/// What a reader gives, before a rich text is expanded.
+#[derive(Drop)]
+pub enum Begun<R> {
+    /// A text that isn't rich, as it is read.
+    Plain(Opened<R>),
+    /// A rich text, all of it, or one byte more than one may have.
+    Rich(Vec<u8>),
+}
+
+/// Begins with the text that a reader gives, which is rich where that is said, and where it begins with the word `#rich`. Any
+/// other one is read as it is; a rich one is read whole first.
+pub fn begin_text<R: Read + Drop>(
     alloc: Global,
     mut reader: R,
     said: bool,
-    files: &F,
-    told: &mut Vec<u8>,
-) -> Result<Opened<R>, StreamFault>
+) -> Result<Begun<R>, StreamFault>
     // These hold of the text that the reader has, where it tells its bytes.
     ensures plain { (text : List ℕ) → R.remaining reader ≡ Some text → is_rich said text ≡ false
-        → IfOk result (ReadsPlain R.remaining text) }
+        → IfOk result (BeginsPlain R.remaining text) }
     ensures rich { (text : List ℕ) → R.remaining reader ≡ Some text → is_rich said text ≡ true
-        → IfOk result (ReadsRich R.remaining text) }
-    ensures refused { (text : List ℕ) → R.remaining reader ≡ Some text
-        → IfErr result (IsUnopened said text) }
-    ensures quiet { OnOk result (told.new.items ≡ told.old.items) }
+        → IfOk result (BeginsRich text) }
+    ensures sort { IfErr result
+        (λ fault. (fault ≡ StreamFault.Read) ⊎ (fault ≡ StreamFault.Memory)) }
 {
     let (front, is_whole) = read_front(alloc, &mut reader)?;
     let is_rich = is_rich_front(said, &front);
     let mut opened = opened_with(front, is_whole, reader);
     if !is_rich {
-        return Ok(opened);
+        return Ok(Begun::Plain(opened));
     }
     let text = read_whole(alloc, &mut opened)?;
-    let out = told_text(alloc, &text, files, told)?;
+    Ok(Begun::Rich(text))
+}
+
+/// Opens a rich text, which is expanded. Of one that is refused `told` gets the lines.
+pub fn open_rich<R: Read, F: Files>(
+    alloc: Global,
+    text: &[u8],
+    files: &F,
+    told: &mut Vec<u8>,
+) -> Result<Opened<R>, StreamFault>
+    ensures rich { IfOk result (ReadsRich R.remaining text.now) }
+    ensures refused { IfErr result (λ fault. FaultOf Expands text.now fault) }
+    ensures sort { IfErr result
+        (λ fault. (fault ≢ StreamFault.Write) × (fault ≢ StreamFault.Read)) }
+    ensures quiet { OnOk result (told.new.items ≡ told.old.items) }
+{
+    let out = told_text(alloc, text, files, told)?;
     Ok(rich_with(out))
 }
 

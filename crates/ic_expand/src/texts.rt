@@ -12,8 +12,8 @@ use crate::fault::{ExpandFault, Reason};
 use crate::forms::has_form;
 use crate::writing::expand;
 use ic_rich::{
-    Files, Found, JoinFault, JoinRefusal, Joined, Origin, RichFault, Unfolded, Wording, join,
-    unfold,
+    Files, Found, JoinFault, JoinRefusal, Joined, Origin, Remarks, RichFault, Unfolded, Wording,
+    join, unfold,
 };
 use ic_text::TextFault;
 use std::alloc::{AllocError, AllocFailed, Global};
@@ -93,6 +93,16 @@ fn formed_text<F: Files>(alloc: Global, text: &[u8], files: &F) -> Result<Expand
         Ok(joined) => joined_text(alloc, joined),
         Err(JoinFault::Memory) => Err(Unexpanded::Memory),
         Err(JoinFault::Refused(refused)) => Err(of_refusal(refused, TextFault::Syntax)),
+    }
+}
+
+/// What is legal in a text that isn't refused, and mostly a mistake.
+pub fn remarks_of<F: Files>(alloc: Global, text: &[u8], files: &F) -> Result<Remarks, AllocError> {
+    let body = without_comments(alloc, text)?;
+    match join(alloc, body, &Uncommented { files }) {
+        Ok(joined) => joined.remarks(alloc),
+        Err(JoinFault::Memory) => Err(AllocError),
+        Err(JoinFault::Refused(_)) => Ok(Remarks::new(alloc)),
     }
 }
 
@@ -262,7 +272,7 @@ fn reason_sentence(alloc: Global, reason: Reason) -> Result<Vec<u8>, AllocError>
         Reason::NoText => {
             Vec::from_slice(
                 alloc,
-                b"a text begins with { or <, and a comment with #; lines for serve aren't expanded",
+                b"a text begins with { or <, since rules stand in braces, and a comment with #; lines for serve aren't expanded",
             )
         }
         Reason::NotSymbol => {

@@ -18,6 +18,8 @@ pub enum Reason {
     Let(LetReason),
     /// A file can't be used.
     Use(UseReason),
+    /// It is written as in Inpla.
+    Foreign(ForeignReason),
     /// What is written has too many bytes.
     TooLong,
 }
@@ -126,6 +128,17 @@ pub enum UseReason {
     ManyFiles,
     /// The file that is named uses this one, too.
     Circle,
+}
+
+/// What is Inpla's own.
+#[derive(Clone, Copy, Debug, PartialEq, Eq)]
+pub enum ForeignReason {
+    /// A number inside an agent, or what is reckoned with it.
+    Number,
+    /// A comment that begins with `//` or `/*`.
+    Comment,
+    /// `<<` or `>>`.
+    Naming,
 }
 
 impl Reason {

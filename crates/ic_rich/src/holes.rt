@@ -7,11 +7,11 @@ use std::collections::BTreeMap;
 
 /// A symbol that no rule has at a place at which others have the one that is declared beside it.
 #[derive(Drop)]
-pub struct Hole {
+pub(crate) struct Hole {
     /// Where the other one stands in the text.
-    pub at: usize,
+    pub(crate) at: usize,
     /// What is said of it.
-    pub words: Vec<u8>,
+    pub(crate) words: Vec<u8>,
 }
 
 /// A symbol that stands at a place, and the one that doesn't, with its arguments.
@@ -46,10 +46,15 @@ pub(crate) fn missing_in<'t>(
     signs: Signs<'t>,
     places: &BTreeMap<&'t [u8], usize>,
 ) -> Option<Missing<'t>> {
-    let number = signs.number.and_then(|sign| missing_of(sign, places));
-    match number {
-        Some(missing) => Some(missing),
-        None => signs.list.and_then(|sign| missing_of(sign, places)),
+    if let Some(sign) = signs.number {
+        let found = missing_of(sign, places);
+        if found.is_some() {
+            return found;
+        }
+    }
+    match signs.list {
+        Some(sign) => missing_of(sign, places),
+        None => None,
     }
 }
 

@@ -31,7 +31,7 @@ struct Woven {
 /// A text with the rules of others.
 #[derive(Drop)]
 pub struct Joined {
-    sources: Vec<Source>,
+    pub(crate) sources: Vec<Source>,
     woven: Woven,
 }
 
@@ -288,12 +288,13 @@ impl Joined {
         put_place(alloc, &self.sources, self.woven.source_of(at), out)
     }
 
-    /// The holes of its patterns, each with the place of the text that is read at which it is told. One that is refused has none.
-    pub fn holes(&self, alloc: Global) -> Result<Vec<Hole>, AllocError> {
+    /// The holes of its patterns, each with the place of the text that is read at which it is told, and the symbols of agents that
+    /// wait. A text that is refused has none.
+    pub(crate) fn patterns(&self, alloc: Global) -> Result<(Vec<Hole>, Vec<Vec<u8>>), AllocError> {
         let unfolded = match unfold(alloc, self.text()) {
             Ok(unfolded) => unfolded,
             Err(RichFault::Memory) => return Err(AllocError),
-            Err(RichFault::Refused(_, _)) => return Ok(Vec::new(alloc)),
+            Err(RichFault::Refused(_, _)) => return Ok((Vec::new(alloc), Vec::new(alloc))),
         };
         let mut holes = Vec::new(alloc);
         for hole in unfolded.holes() {
@@ -303,7 +304,7 @@ impl Joined {
                 words: said_at(alloc, &self.sources, place, &hole.words)?,
             })?;
         }
-        Ok(holes)
+        Ok((holes, unfolded.waiting(alloc)?))
     }
 
     /// The refusal at a place of it, of which this is said.
@@ -332,7 +333,7 @@ fn is_new(heads: &[Head], head: &Head) -> Result<bool, UseFault> {
 }
 
 /// Whether a segment has a rule, or a line such as `copy Dup`.
-fn is_told(text: &[u8], segment: Segment) -> bool {
+pub(crate) fn is_told(text: &[u8], segment: Segment) -> bool {
     let is_empty = after_blanks(segment.part_of(text)).is_empty();
     segment.within && !is_empty && use_at(text, segment).is_none()
 }

@@ -25,24 +25,24 @@ pub(crate) struct Node {
     pub(crate) rows: Vec<Row>,
 }
 
-/// Appends the names from one place up to another one, but for that of one place: there the agent that waits stands, if one is said.
+/// Appends the names from one place up to another one. In one place the agent that waits stands, or nothing if that has no bytes.
 fn put_names(
     out: &mut Vec<u8>,
     places: (usize, usize),
     column: usize,
-    waiter: Option<&[u8]>,
+    waiter: &[u8],
 ) -> Result<(), AllocError> {
     let mut mark = b'(';
     for place in places.0..places.1 {
-        let agent = if place == column { waiter } else { None };
-        if place != column || agent.is_some() {
+        let is_waiter = place == column;
+        if !is_waiter || !waiter.is_empty() {
             out.push(mark)?;
             mark = b',';
         }
-        match agent {
-            Some(agent) => out.extend_from_slice(agent)?,
-            None if place == column => {}
-            None => out.push(NAMES.get(place).copied().unwrap_or(b'z'))?,
+        if is_waiter {
+            out.extend_from_slice(waiter)?;
+        } else {
+            out.push(NAMES.get(place).copied().unwrap_or(b'z'))?;
         }
     }
     if mark == b',' {
@@ -111,13 +111,13 @@ impl Node {
     ) -> Result<Vec<u8>, AllocError> {
         let width = self.width();
         let mut agent = waiter.to_vec(alloc)?;
-        put_names(&mut agent, (0, width), column, None)?;
+        put_names(&mut agent, (0, width), column, b"".as_slice())?;
         let [left, right] = &self.symbols;
         let mut out = left.to_vec(alloc)?;
-        put_names(&mut out, (0, self.left), column, Some(agent.as_slice()))?;
+        put_names(&mut out, (0, self.left), column, &agent)?;
         out.extend_from_slice(b"><".as_slice())?;
         out.extend_from_slice(right)?;
-        put_names(&mut out, (self.left, width), column, Some(agent.as_slice()))?;
+        put_names(&mut out, (self.left, width), column, &agent)?;
         out.push(b';')?;
         Ok(out)
     }

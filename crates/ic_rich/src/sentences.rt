@@ -3,6 +3,7 @@
 use crate::fault::{
     LetReason, NestReason, Reason, RuleReason, ShorthandReason, UseReason, WireReason,
 };
+use crate::foreign::foreign_words;
 use std::alloc::{AllocError, Global};
 
 /// What is amiss at the place of a refusal, where a text goes on so.
@@ -38,6 +39,7 @@ fn words_of(reason: Reason) -> Words {
         Reason::Shorthand(reason) => shorthand_words(reason),
         Reason::Let(reason) => let_words(reason),
         Reason::Use(reason) => use_words(reason),
+        Reason::Foreign(reason) => foreign_words(reason),
         Reason::TooLong => (
             b"what this stands for is too long: a text has at most 16777216 bytes",
             b"",

@@ -279,9 +279,17 @@ impl<'t> Shorthands<'t> {
             b']' => self.put_list_end(token, next),
             b',' => self.put_comma(token, next),
             b'|' => self.put_bar(token, next),
+            b'~' if !self.segment.within => self.put_sign(token, next),
             b'<' | b';' if !self.segment.within => self.put_outer(token, mark, next),
             _ => self.put_token(token, next, Before::Other),
         }
+    }
+
+    /// Writes the sign between two terms of a configuration.
+    fn put_sign(&mut self, token: Token, next: usize) -> Result<usize, RichFault> {
+        self.written.put_made(b"=".as_slice(), token.at)?;
+        self.before = Before::Other;
+        Ok(next)
     }
 
     /// Writes a mark that opens arguments or a pair.

@@ -2,6 +2,7 @@
 
 use crate::arrows::{has_arrow, put_rule};
 use crate::fault::RichFault;
+use crate::foreign::refuse_foreign;
 use crate::holes::Hole;
 use crate::nests::Nests;
 use crate::restoring::Waiters;
@@ -39,8 +40,17 @@ impl Unfolded<'_> {
     }
 
     /// The holes of its patterns.
-    pub fn holes(&self) -> &[Hole] {
+    pub(crate) fn holes(&self) -> &[Hole] {
         &self.holes
+    }
+
+    /// The symbols of agents that wait.
+    pub(crate) fn waiting(&self, alloc: Global) -> Result<Vec<Vec<u8>>, AllocError> {
+        let mut symbols = Vec::new(alloc);
+        for (symbol, _) in &self.waiters {
+            symbols.push(symbol.to_vec(alloc)?)?;
+        }
+        Ok(symbols)
     }
 
     /// The words of the text, which is written as this plain one.
@@ -118,6 +128,7 @@ fn without_arrows(alloc: Global, text: &[u8], signs: Signs) -> Result<WithoutArr
 /// stand.
 pub fn unfold<'t>(alloc: Global, text: &'t [u8]) -> Result<Unfolded<'t>, RichFault> {
     let segments = segments_of(alloc, text)?;
+    refuse_foreign(text, &segments)?;
     let signs = signs_of(alloc, text, &segments)?;
     let long = Shorthands::new(alloc, text, signs).put_all(&segments)?;
     match without_arrows(alloc, long.text(), signs) {

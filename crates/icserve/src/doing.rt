@@ -1,31 +1,29 @@
 //! What each word of the program does, with the values that it is given.
 
+mod reduce_word;
+
+use self::reduce_word::reduce;
 use crate::input::{self, Input, is_rich_path, open_text, tell_of_plain};
-use crate::keeping::{self, KeptIn};
-use crate::profiling::{Profile, Profiled};
-use crate::reducing::{self, Wanted, of_memory, threads_for};
+use crate::reducing::{of_memory, threads_for};
+use crate::several::refuse_several;
 use crate::texts::UsedFiles;
 use crate::{
     Clients, DiskAt, Making, attend, batching, checking, create, dumping, inspecting, looking,
     serve_session, show, texts,
 };
 use ic_args::table::{
-    CHECKED, DISK, DRAWN, EVERY, EXPLAIN, FIGURES, FILE, GROUP, HELPERS, KEEP, LIMITS, LINES,
-    MAX_ROUNDS, MAX_STEPS, NAMES, NODES, ONE_FILE, OVERWRITE, PARTIAL, PLAIN, QUIET, REDUCERS,
-    REPORT, RESUME, RICH, ROUNDS, RULES_TOO, RUNNERS, SCRIPT, SCRIPTS, SECONDS, STATS, STEPS,
-    STRICT, SUMS, TABLE, TAKEN, TOPIC, TRACED, TURNS, WAIT, WORKERS, Word, table,
+    CHECKED, DISK, DRAWN, EVERY, EXPLAIN, FILE, GROUP, HELPERS, KEEP, LIMITS, LINES, MAX_ROUNDS,
+    MAX_STEPS, NAMES, NODES, OVERWRITE, PLAIN, REPORT, RESUME, RICH, RULES_TOO, RUNNERS, SCRIPT,
+    SCRIPTS, STRICT, SUMS, TABLE, TAKEN, TOPIC, TRACED, TURNS, WAIT, WORKERS, Word, table,
 };
-use ic_args::{
-    FiguresFormat, Place, ReportFormat, TextLimits, TraceFormat, Values, WordsFault, help_of,
-};
+use ic_args::{Place, ReportFormat, TextLimits, TraceFormat, Values, WordsFault, help_of};
 use ic_causes::{NotedInput, NotedOutput, Notes};
 use ic_diagnostics::{once_telling, settle_telling};
 use ic_exits::Failure;
-use ic_expand::{Opened, Shape, write_told};
-use ic_in_place::{Asked, Bounds, RoundBounds};
+use ic_expand::{Begun, Opened, Shape, begin_text, write_told};
+use ic_in_place::RoundBounds;
 use ic_streams::StreamFault;
 use ic_text::Limits;
-use ic_workers::Policy;
 use std::io::{self, Cursor, Read, StdinLock};
 use std::sync::Wait;
 use std::thread::Threads;
@@ -84,13 +82,33 @@ type Text<'a> = Input<'a, StdinLock<'static>>;
 /// What a word reads of a text that may be rich.
 type Opening<'a> = Opened<Text<'a>>;
 
-/// The text in the file that is named, or on standard input. A rich one is expanded; if it is refused, the lines that tell
-/// of it are appended to `told`. What comes of it is told in its words, unless plain ones are wanted, or rules beside it.
+/// The text in the file that is named, or on standard input. A rich one is expanded; if it is refused, or has several
+/// configurations, the lines that tell of it are appended to `told`.
 fn open_input<'a, T>(doing: &Doing<'a, '_, T>, told: &mut Vec<u8>) -> Result<Opening<'a>, Failure> {
+    match begin_input(doing)? {
+        Begun::Plain(opened) => Ok(opened),
+        Begun::Rich(text) => {
+            refuse_several(doing.rt.alloc(), &text, told)?;
+            open_rich(doing, &text, told)
+        }
+    }
+}
+
+/// The same before a rich text is expanded.
+fn begin_input<'a, T>(doing: &Doing<'a, '_, T>) -> Result<Begun<Text<'a>>, Failure> {
     let is_said = doing.values.flag(&RICH) || doing.values.file(&FILE).is_some_and(is_rich_path);
     let input = open_given(doing)?;
+    begin_text(doing.rt.alloc(), input, is_said).map_err(Failure::Stream)
+}
+
+/// A rich text, expanded. What comes of it is told in its words, unless plain ones are wanted, or rules beside it.
+fn open_rich<'a, T>(
+    doing: &Doing<'a, '_, T>,
+    text: &[u8],
+    told: &mut Vec<u8>,
+) -> Result<Opening<'a>, Failure> {
     let files = used_by(doing);
-    let opened = ic_expand::open_text(doing.rt.alloc(), input, is_said, &files, told);
+    let opened = ic_expand::open_rich(doing.rt.alloc(), text, &files, told);
     let opened = opened.map_err(Failure::Stream)?;
     if doing.values.flag(&PLAIN) || doing.values.flag(&RULES_TOO) {
         Ok(opened.told_plain())
@@ -170,9 +188,17 @@ fn draw<T>(doing: &Doing<'_, '_, T>, told: &mut Vec<u8>) -> Result<(), Failure> 
     tell_of_plain(&input, drawn, told)
 }
 
+/// Each text is a rich one.
 fn expand<T>(doing: &Doing<'_, '_, T>, told: &mut Vec<u8>) -> Result<(), Failure> {
-    let mut input = open_given(doing)?;
-    texts::expand(doing.rt, &mut input, &used_by(doing), doing.notes, told)
+    let input = open_given(doing)?;
+    let files = used_by(doing);
+    let begun = begin_text(doing.rt.alloc(), input, true).map_err(Failure::Stream)?;
+    match begun {
+        Begun::Rich(text) => texts::expand_each(doing.rt, &text, &files, doing.notes, told),
+        Begun::Plain(mut opened) => {
+            texts::expand(doing.rt, &mut opened, &files, doing.notes, told)
+        }
+    }
 }
 
 fn trace<T>(doing: &Doing<'_, '_, T>, told: &mut Vec<u8>) -> Result<(), Failure> {
@@ -196,174 +222,6 @@ fn trace<T>(doing: &Doing<'_, '_, T>, told: &mut Vec<u8>) -> Result<(), Failure>
         told,
     );
     tell_of_plain(&input, traced, told)
-}
-
-/// Reduces the text by rounds, in place, or in place with files in which is kept what is reached.
-fn reduce<T: Threads + Wait + Sync>(
-    doing: &Doing<'_, '_, T>,
-    told: &mut Vec<u8>,
-) -> Result<(), Failure> {
-    if let Some(path) = doing.values.text(&KEEP) {
-        return reduce_kept(doing, path, true, told);
-    }
-    if let Some(path) = doing.values.text(&RESUME) {
-        return reduce_kept(doing, path, false, told);
-    }
-    match doing.values.number_met(&ROUNDS) {
-        Some(rounds) => reduce_by_rounds(doing, rounds, told),
-        None => reduce_in_place(doing, told),
-    }
-}
-
-/// By rounds a net is reduced by one thread.
-fn reduce_by_rounds<T>(
-    doing: &Doing<'_, '_, T>,
-    rounds: u64,
-    told: &mut Vec<u8>,
-) -> Result<(), Failure> {
-    let bounds = RoundBounds {
-        rounds,
-        nodes: doing.values.number(&NODES),
-    };
-    let wanted = wanted_of(doing.values, Policy::of(1));
-    let limits = limits_of(doing.values);
-    let mut input = open_input(doing, told)?;
-    let reduced = reducing::reduce_by_rounds(
-        doing.rt,
-        limits,
-        bounds,
-        wanted,
-        &mut input,
-        doing.notes,
-        told,
-    );
-    tell_of_plain(&input, reduced, told)
-}
-
-/// The limits of a text.
-fn limits_of(values: &Values) -> Limits {
-    match TextLimits::of(values.choice(&LIMITS)) {
-        TextLimits::Served => Limits::Served,
-        TextLimits::Wide => Limits::Wide,
-    }
-}
-
-/// Where a profile is wanted, its place is opened before the text is read.
-fn reduce_in_place<T: Threads + Sync>(
-    doing: &Doing<'_, '_, T>,
-    told: &mut Vec<u8>,
-) -> Result<(), Failure> {
-    let profiled = Profiled::of(doing.values);
-    let mut profile = Profile::open(doing.rt, profiled, doing.notes, told)?;
-    let reduced = reduce_profiled(doing, &mut profile, told);
-    profile.leave(doing.rt);
-    reduced
-}
-
-/// In any order, with this profile.
-fn reduce_profiled<T: Threads + Sync>(
-    doing: &Doing<'_, '_, T>,
-    profile: &mut Profile<'_, '_>,
-    told: &mut Vec<u8>,
-) -> Result<(), Failure> {
-    let bounds = bounds_of(doing.values);
-    let threads = threads_for(doing.threads, said_of(doing.values), bounds.steps);
-    let wanted = wanted_of(doing.values, Policy::of(threads));
-    let limits = limits_of(doing.values);
-    let mut input = open_input(doing, told)?;
-    let reduced = reducing::reduce(
-        doing.rt,
-        doing.threads,
-        limits,
-        bounds,
-        wanted,
-        profile,
-        &mut input,
-        doing.notes,
-        told,
-    );
-    tell_of_plain(&input, reduced, told)
-}
-
-/// One that goes on with what is kept reads no text.
-fn reduce_kept<T: Threads + Sync>(
-    doing: &Doing<'_, '_, T>,
-    path: &str,
-    begins: bool,
-    told: &mut Vec<u8>,
-) -> Result<(), Failure> {
-    let kept = KeptIn {
-        path,
-        begins,
-        from_one: doing.values.flag(&ONE_FILE),
-        seconds: doing.values.number(&SECONDS),
-        rounds: doing.values.number_met(&ROUNDS),
-        is_in_any_order: has_order(doing.values),
-    };
-    let bounds = bounds_of(doing.values);
-    let threads = threads_for(doing.threads, said_of(doing.values), bounds.steps);
-    let wanted = wanted_of(doing.values, Policy::of(threads));
-    let mut input = if begins {
-        open_input(doing, told)?
-    } else {
-        unread(doing)
-    };
-    let reduced = keeping::reduce(
-        doing.rt,
-        doing.threads,
-        kept,
-        bounds,
-        wanted,
-        &mut input,
-        doing.notes,
-        told,
-    );
-    tell_of_plain(&input, reduced, told)
-}
-
-/// Whether it is said how many interactions are made at most, or how many threads reduce.
-fn has_order(values: &Values) -> bool {
-    values.number_met(&STEPS).is_some() || values.number_met(&REDUCERS).is_some()
-}
-
-/// How many threads are said to reduce, if it is said.
-fn said_of(values: &Values) -> Option<u32> {
-    match values.number_met(&REDUCERS) {
-        Some(number) => Some(number as u32),
-        None => None,
-    }
-}
-
-/// The bounds of a reduction in place.
-fn bounds_of(values: &Values) -> Bounds {
-    Bounds {
-        steps: values.number_met(&STEPS).unwrap_or(MAX_STEPS),
-        nodes: values.number(&NODES),
-    }
-}
-
-/// What is wanted of a reduction in place.
-fn wanted_of(values: &Values, policy: Policy) -> Wanted {
-    let format = FiguresFormat::of(values.choice(&FIGURES));
-    Wanted {
-        asked: asked_of(values.flag(&QUIET), values.flag(&PARTIAL)),
-        has_rules: values.flag(&RULES_TOO),
-        figures: if values.flag(&STATS) || Profiled::of(values).has_span {
-            Some(format)
-        } else {
-            None
-        },
-        policy,
-    }
-}
-
-/// What of a reduction in place is printed, by whether nothing is, and whether a part of the way is, too.
-fn asked_of(quiet: bool, partial: bool) -> Asked {
-    match (quiet, partial) {
-        (true, _) => Asked::Nothing,
-        (false, true) => Asked::AlsoPart,
-        (false, false) => Asked::Answer,
-    }
 }
 
 fn check<T>(doing: &Doing<'_, '_, T>, told: &mut Vec<u8>) -> Result<(), Failure> {
@@ -436,6 +294,14 @@ fn batch<T: Threads + Wait + Copy + Send + 'static>(
         doing.notes,
         told,
     )
+}
+
+/// The limits of a text.
+fn limits_of(values: &Values) -> Limits {
+    match TextLimits::of(values.choice(&LIMITS)) {
+        TextLimits::Served => Limits::Served,
+        TextLimits::Wide => Limits::Wide,
+    }
 }
 
 /// How many rounds a job makes at most.

@@ -19,10 +19,12 @@ mod reducing;
 mod renewing;
 mod scripts;
 mod session;
+mod several;
 mod standing;
 mod standstill;
 mod texts;
 mod unbegun;
+mod warned;
 
 use crate::answers::Answers;
 use crate::doing::{Doing, do_word, path_of};

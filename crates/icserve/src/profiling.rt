@@ -83,6 +83,11 @@ impl<'a, 'n> Profile<'a, 'n> {
         self.profiled.is_wanted()
     }
 
+    /// Whether each round is to be written somewhere.
+    pub(crate) fn has_place(&self) -> bool {
+        self.profiled.path.is_some()
+    }
+
     /// Writes the profile of a reduction that has ended, if that is wanted. What was to be known of rounds and isn't is told as want
     /// of memory. Why it isn't written is appended to `told`.
     pub(crate) fn put(

@@ -4,6 +4,7 @@ ghost use Rattle.std.specs.Prelude.{◌≡◌, ◌<◌, ◌≤◌, IfNone, IfSom
 
 use crate::looking::{tell_circle, tell_stuck};
 use crate::profiling::Profile;
+use crate::several::Among;
 use ic_args::FiguresFormat;
 use ic_args::table::MAX_STEPS;
 use ic_causes::{NotedOutput, Notes};
@@ -35,6 +36,8 @@ pub(crate) struct Wanted {
     pub(crate) figures: Option<FiguresFormat>,
     /// How many threads reduce, and how they share it.
     pub(crate) policy: Policy,
+    /// Which configuration it is of, if there are several.
+    pub(crate) among: Option<Among>,
 }
 
 /// How many threads reduce a net: as many as are said, within the bounds. Where no number is said there are as many as there
@@ -268,9 +271,9 @@ fn reduce_over<T: Threads + Sync, V: Watch, R: Read, W: Write>(
     )
 }
 
-/// Tells on standard error what is told of a reduction that took so long, and that threads shared so: figures, as far as they are
-/// wanted, a stuck pair and a circle. A terminal is told if there are rules and none was used. The answer says how it ended, where its net may have so
-/// many names and agents.
+/// Tells on standard error what is told of a reduction that took so long, and that threads shared so: of which configuration it is,
+/// figures, as far as they are wanted, a stuck pair and a circle. A terminal is told if there are rules and none was used. The answer
+/// says how it ended, where its net may have so many names and agents.
 pub(crate) fn tell_end(
     rt: &HostRuntime,
     outcome: &Outcome,
@@ -280,6 +283,7 @@ pub(crate) fn tell_end(
     shares: &Shares,
     nodes: u64,
 ) -> Result<(), Failure> {
+    tell_among(rt, outcome, wanted);
     if let Some(format) = wanted.figures {
         let threads = wanted.policy.workers;
         tell_figures(rt, outcome, rounds, threads, shares, time, format);
@@ -294,6 +298,24 @@ pub(crate) fn tell_end(
         tell_idle(rt);
     }
     reduce_ending(outcome.end, reached_of(outcome, rounds), nodes)
+}
+
+/// Tells on standard error of which configuration the lines are that follow, if there are several, and some follow. Objects come
+/// in the order of the configurations.
+fn tell_among(rt: &HostRuntime, outcome: &Outcome, wanted: Wanted) {
+    let Some(among) = wanted.among else {
+        return;
+    };
+    let has_told = match wanted.figures {
+        Some(FiguresFormat::Lines) => true,
+        Some(FiguresFormat::Objects) => false,
+        None => outcome.stuck.is_some() || outcome.circle.is_some(),
+    };
+    if has_told {
+        if let Ok(line) = among.told(rt.alloc()) {
+            let _ = rt.stderr().write_all(line.as_bytes());
+        }
+    }
 }
 
 /// How far a reduction came.

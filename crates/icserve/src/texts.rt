@@ -1,9 +1,13 @@
 //! Texts in files, which have a bound on their length, and `expand`.
 
 use crate::inspecting::open_to_read;
+use crate::reducing::of_memory;
+use crate::several::{configurations_of, out_of_memory};
 use ic_causes::{NotedOutput, Notes, shown_path};
 use ic_exits::Failure;
-use ic_expand::{Files, Found, expand_stream};
+use ic_expand::{Files, Found, Several, expand_stream};
+use ic_streams::write_line;
+use ic_text::is_blank;
 use std::alloc::{AllocError, Global};
 use std::env;
 use std::io::{self, Read};
@@ -128,4 +132,61 @@ pub(crate) fn expand<R: Read>(
 ) -> Result<(), Failure> {
     let mut output = NotedOutput::new(io::writer(rt), notes);
     expand_stream(rt.alloc(), input, &mut output, files, told).map_err(Failure::Stream)
+}
+
+/// Prints the text of the calculus for which a text stands, and for one with several configurations that of each, on a line of its
+/// own.
+pub(crate) fn expand_each(
+    rt: &HostRuntime,
+    text: &[u8],
+    files: &UsedFiles<'_>,
+    notes: &Notes,
+    told: &mut Vec<u8>,
+) -> Result<(), Failure> {
+    let several = configurations_of(rt.alloc(), text, told)?;
+    if several.count() <= 1 {
+        let mut input = text;
+        return expand(rt, &mut input, files, notes, told);
+    }
+    let mut output = NotedOutput::new(io::writer(rt), notes);
+    for number in 0..several.count() {
+        let line = expanded_line(rt.alloc(), &several, number, files, told)?;
+        write_line(&mut output, &line).map_err(Failure::Stream)?;
+    }
+    Ok(())
+}
+
+/// The text of the calculus of one configuration, on a line.
+fn expanded_line(
+    alloc: Global,
+    several: &Several,
+    number: usize,
+    files: &UsedFiles<'_>,
+    told: &mut Vec<u8>,
+) -> Result<Vec<u8>, Failure> {
+    let text = several.text_of(alloc, number).map_err(out_of_memory)?;
+    let mut input = text.as_slice();
+    let mut plain = Vec::new(alloc);
+    let expanded = expand_stream(alloc, &mut input, &mut plain, files, told);
+    expanded.map_err(of_memory).map_err(Failure::Stream)?;
+    on_a_line(alloc, &plain).map_err(out_of_memory)
+}
+
+/// A text on a line: blanks in a row, and ends of lines, are one blank.
+fn on_a_line(alloc: Global, text: &[u8]) -> Result<Vec<u8>, AllocError> {
+    let mut line = Vec::new(alloc);
+    let mut is_due = false;
+    for byte in text {
+        if is_blank(*byte) {
+            is_due = true;
+        } else {
+            if is_due && !line.is_empty() {
+                line.push(b' ')?;
+            }
+            is_due = false;
+            line.push(*byte)?;
+        }
+    }
+    line.push(b'\n')?;
+    Ok(line)
 }

@@ -1,4 +1,4 @@
-use Rattle.std.proofs.Common.{◌≡◌, ◌==◌, ◌-◌, ◌++◌, ◌∷◌, [], ℕ, List, cond, drop, get_or, length, reverse, sym, ap, ◌∙◌, arith}
+use Rattle.std.proofs.Common.{◌≡◌, ◌==◌, ◌-◌, ◌++◌, ◌∷◌, [], ℕ, List, cond, drop, get_or, reverse, sym, ap, ◌∙◌, arith}
 use Rattle.ic_expand.specs.inner.Ahead.{counts_of, levels, with_level}
 use Rattle.ic_expand.proofs.AheadLemmas.{inmost, inmost_few, tail_back, tail_end, tail_few}
 use Rattle.ic_expand.proofs.ahead.counts_of.Goals as goal

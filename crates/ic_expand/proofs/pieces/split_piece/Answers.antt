@@ -1,4 +1,4 @@
-use Rattle.std.proofs.Common.{◌≡◌, List, ◌∷◌, take, inl, inr, ap, subst, true, [], ◌∙◌, ℕ, ap₂, arith, sym}
+use Rattle.std.proofs.Common.{◌≡◌, List, ◌∷◌, take, inl, inr, ap, subst, [], ◌∙◌, ℕ, ap₂, arith, sym}
 use Rattle.std.specs.List.{list_all}
 use Rattle.std.proofs.lemmas.List.Sums.{prefix_len-le-length}
 use Rattle.ic_expand.specs.Pieces.{first_byte, joins, pieces}

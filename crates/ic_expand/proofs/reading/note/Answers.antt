@@ -1,4 +1,4 @@
-use Rattle.std.proofs.Common.{◌≡◌, ◌∙◌, ◌||◌, ◌∷◌, ◌++◌, [], ℕ, List, true, cond, length, map, nat_lt, not, false, sym, ap, ap₂, arith}
+use Rattle.std.proofs.Common.{◌≡◌, ◌∙◌, ◌||◌, ◌∷◌, ◌++◌, [], List, true, cond, length, map, nat_lt, not, false, sym, ap, ap₂, arith}
 use Rattle.std.specs.Str.{bytes_eq}
 use Rattle.std.proofs.lemmas.List.{length-map, map-append}
 use Rattle.std.proofs.lemmas.Bool.Decides.{nat_tests}
@@ -6,7 +6,7 @@ use Rattle.ic_term.specs.Symbol.{Symbol}
 use Rattle.ic_term.specs.declared.limits.TheConstants.{MAX_WIDE_SYMBOLS}
 use Rattle.ic_expand.specs.declared.reading.Use.{Use}
 use Rattle.ic_expand.specs.Names.{is_among}
-use Rattle.ic_expand.specs.Reading.{is_known, noted}
+use Rattle.ic_expand.specs.Reading.{is_known}
 use Rattle.ic_expand.specs.inner.Sheets.{symbol_in}
 use Rattle.ic_expand.proofs.Lists.{any-map}
 use Rattle.ic_expand.proofs.reading.note.Goals as goal

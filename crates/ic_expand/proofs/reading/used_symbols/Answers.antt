@@ -1,7 +1,7 @@
 use Rattle.std.proofs.Common.{◌≡◌, ◌∙◌, ◌==◌, ◌-◌, get_or, length, map, refl, sym, ap, arith}
 use Rattle.std.specs.List.{fold}
 use Rattle.ic_expand.specs.Pieces.{first_byte, pieces}
-use Rattle.ic_expand.specs.Reading.{arguments, commas, noted, uses}
+use Rattle.ic_expand.specs.Reading.{commas, noted, uses}
 use Rattle.ic_expand.specs.inner.Ahead.{arguments_by, counts_of}
 use Rattle.ic_expand.specs.inner.Sheets.{symbol_in}
 use Rattle.ic_expand.proofs.AheadLemmas.{arguments_are, first_few, less, passed}

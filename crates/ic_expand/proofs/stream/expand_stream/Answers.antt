@@ -1,6 +1,6 @@
 use Rattle.ic_streams.specs.lemmas.Reading.{unread}
 use Rattle.ic_expand.specs.Streams.{Expands}
-use Rattle.ic_expand.proofs.Streaming.{refused_of_taken, written_of_taken}
+use Rattle.ic_expand.proofs.Streaming.{refused_of_taken, taken_unwritten, written_of_taken}
 use Rattle.ic_expand.proofs.stream.expand_stream.Goals as goal
 
 pub returns-in_err-text-clause-answered : goal.returns-in_err-text-clause-answered
@@ -13,3 +13,6 @@ returns-in_err-out-clause-answered g c = refused_of_taken c.from_residual-in_err
 pub returns-clause-answered : goal.returns-clause-answered
 returns-clause-answered g c = written_of_taken c.write_line.result _ _ _ _ _ _ _ _
     c.in_ok-text.ensures.text c.deref.ensures.value c.in_ok-out.ensures.text c.deref-2.ensures.value c.write_line.ensures.written c.write_line.ensures.cut c.write_line.ensures.refused
+
+pub returns-clause-taken_at_fault : goal.returns-clause-taken_at_fault
+returns-clause-taken_at_fault g c = taken_unwritten c.write_line.result _ _ _ c.in_ok-text.ensures.text c.write_line.ensures.refused

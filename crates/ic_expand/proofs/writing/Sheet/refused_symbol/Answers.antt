@@ -1,5 +1,4 @@
-use Rattle.std.proofs.Common.{◌≡◌, ◌∙◌, Option, ℕ, sym, ap, is_some}
-use Rattle.ic_expand.specs.Expanding.{is_for}
+use Rattle.std.proofs.Common.{◌∙◌, Option, ℕ, sym, ap, is_some}
 use Rattle.ic_expand.proofs.AskedLemmas.{is_for_some}
 use Rattle.ic_expand.proofs.writing.Sheet.refused_symbol.Goals as goal
 
