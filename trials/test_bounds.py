@@ -78,13 +78,13 @@ class Bounds(Trial):
             self.below("bytes of 3,000,000 interactions", 20 * MEGABYTE, memory)
             self.below("seconds of 3,000,000 interactions, in those of a loop", 20, seconds / fixed_work())
 
-    def test_a_text_of_a_million_nodes_takes_below_60_bytes_a_node(self):
+    def test_a_text_of_a_million_nodes_takes_below_100_bytes_a_node(self):
         wide = "{} <|" + ",".join(["A(B,C)=D(E)"] * 200_000) + ">"
         names = "{} <|" + ",".join(f"A(x{it + 1})=B(x{it + 1})" for it in range(250_000)) + ">"
         deep = "{} <" + "S(" * 999_999 + "Z" + ")" * 999_999 + "|>"
         for what, text in (("equations", wide), ("names", names), ("a deep term", deep)):
             memory, seconds = self.taken("reduce", "--workers", 1, "--quiet-answer", given=text)
-            self.below(f"bytes of a million nodes: {what}", 60 * MEGABYTE, memory)
+            self.below(f"bytes of a million nodes: {what}", 100 * MEGABYTE, memory)
             self.below(f"seconds of a million nodes, in those of a loop: {what}", 20, seconds / fixed_work())
 
     def test_as_many_symbols_as_there_may_be_and_many_rules_take_little_memory(self):
