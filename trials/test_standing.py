@@ -7,7 +7,7 @@ import time
 from attending import TOLD, Attending
 from disks import EMPTY, put, slot
 from known import LOOP, TWO, WAVES, WIDE
-from program import Server, heeds_signals
+from program import Server, heeds_signals, run
 from shim import noted, shimmed
 from stops import Stops
 
@@ -16,6 +16,16 @@ LINES = [f"submit two {TWO.text}", "run 5", f"submit a {WAVES.text}", "run 1", f
 LINES += [f"submit b {WIDE.text}", "run 3", "list", "run 20"]
 FIRST_LAP = LINES.index("run 3")
 SMALL = [f"submit two {TWO.text}", "run 5", f"submit loop {LOOP.text}", "run 100", "list"]
+
+
+def loops(count):
+    """Pairs that fire in every round."""
+    return "{A(B(x))><B(A(x))} <|" + ",".join(f"A(x{it})=B(x{it})" for it in range(1, count + 1)) + ">"
+
+
+def growing(nodes):
+    """A pair that leaves a node more in every round, beside so many at first."""
+    return "{A(B(x),S(y))><B(A(x,y))} <" + "S(" * nodes + "r" + ")" * nodes + "|A(x,r)=B(x)>"
 
 
 class Standing(Stops):
@@ -95,6 +105,35 @@ class Standing(Stops):
                 ran = server.stop(sign)
             self.equals(ran.command, "status and standard error", (-sign, b""), (ran.status, ran.err))
             self.found(ran, disk, self.may_be_left(ran, lines, (), every))
+
+
+class Laps(Stops):
+    seconds = 15
+
+    def drawn(self, draw):
+        """Lines on a few jobs: of many pairs or few, that grow until they are halted, that end, with a budget or without."""
+        systems = [loops(it) for it in (1, 3, 30, 200)] + [growing(it) for it in (1, 500, 4000, 8000)] + [TWO.text]
+        names = [f"j{it}" for it in range(8)]
+        lines = [f"submit {it} {draw.choice(('', '', '40 '))}{draw.choice(systems)}" for it in names]
+        for _ in range(40):
+            name = draw.choice(names)
+            go_on = f"run {draw.choice((1, 2, 30, 100, 1000))}"
+            other = draw.choice((f"pause {name}", f"resume {name}", f"cancel {name}", f"copy {name} {draw.choice(names)}", f"fetch {name}"))
+            submit = f"submit {name} {draw.choice(systems)}"
+            lines.append(draw.choice((go_on, go_on, go_on, other, submit)))
+        return [*lines, "list"]
+
+    def test_answers_and_disks_are_the_same_bytes_by_any_number_of_workers(self):
+        draw = self.draws()
+        for number in range(12):
+            lines, every = self.drawn(draw), draw.choice((1, 50, 100_000))
+            came = []
+            for workers in (1, 2, 4, 64):
+                disk = self.disk(f"{number}.{workers}.disk")
+                ran = run("serve", "--disk", disk, "--workers", workers, "--every", every, given=lines)
+                came.append((ran.status, ran.err, ran.out, disk.read_bytes()))
+            self.equals(came[0][:2], "how it ends", (0, b""), came[0][:2])
+            self.equals([it[:60] for it in lines], "whether answers and disks are the same by 1, 2, 4 and 64 workers", 1, len(set(came)))
 
 
 class StandingCrews(Attending):
