@@ -110,7 +110,7 @@ class Standing(Stops):
 class Laps(Stops):
     seconds = 15
 
-    def drawn(self, draw):
+    def lines_of_jobs(self, draw):
         """Lines on a few jobs: of many pairs or few, that grow until they are halted, that end, with a budget or without."""
         systems = [loops(it) for it in (1, 3, 30, 200)] + [growing(it) for it in (1, 500, 4000, 8000)] + [TWO.text]
         names = [f"j{it}" for it in range(8)]
@@ -125,8 +125,8 @@ class Laps(Stops):
 
     def test_answers_and_disks_are_the_same_bytes_by_any_number_of_workers(self):
         draw = self.draws()
-        for number in range(12):
-            lines, every = self.drawn(draw), draw.choice((1, 50, 100_000))
+        for number in range(8):
+            lines, every = self.lines_of_jobs(draw), draw.choice((1, 50, 100_000))
             came = []
             for workers in (1, 2, 4, 64):
                 disk = self.disk(f"{number}.{workers}.disk")
