@@ -18,7 +18,7 @@ from pages import SCRIPTS  # noqa: E402
 TOPICS = (("language",), ("limits",), ("keep",))
 
 # What there is beside a release for who has neither the kit nor a clone nor make.
-TOOLS = ("sh", "env", "cat", "echo", "head", "tail", "tr", "dot", "python3")
+TOOLS = ("sh", "env", "cat", "echo", "head", "tail", "tr", "dot")
 
 
 def help_of(*words):
@@ -202,9 +202,9 @@ class Releases(Trial):
         of their own."""
         tools = self.room / "tools"
         tools.mkdir(exist_ok=True)
-        for it in TOOLS:
-            if shutil.which(it) and not (tools / it).exists():
-                (tools / it).symlink_to(shutil.which(it))
+        for name, path in {"python3": sys.executable, **{it: shutil.which(it) for it in TOOLS}}.items():
+            if path and not (tools / name).exists():
+                (tools / name).symlink_to(path)
         how = {"cwd": room, "env": {"PATH": str(tools), "PYTHONDONTWRITEBYTECODE": "1"}, "stdin": subprocess.DEVNULL, "timeout": 60}
         typed = 0
         for block in blocks_of("README.md"):
@@ -221,13 +221,16 @@ class Releases(Trial):
 
     def stands_alone(self, tree):
         """In a root that has nothing but the C library the program answers, where this user may have such a root."""
+        chroot = shutil.which("chroot", path="/usr/sbin:/sbin:/usr/bin:/bin")
+        if not chroot:
+            return
         root = self.room / "alone"
         said = subprocess.run(["ldd", tree / "bin/icserve"], stdout=subprocess.PIPE, check=True, timeout=60).stdout.decode()
         copied = {it: it for it in re.findall(r"(/\S+) \(", said)}
         for at, it in {**copied, "/icserve": tree / "bin/icserve", "/addition.ic": tree / "examples/addition.ic"}.items():
             (root / at[1:]).parent.mkdir(parents=True, exist_ok=True)
             shutil.copy(it, root / at[1:])
-        ran = run(root, "/icserve", "reduce", "/addition.ic", program=shutil.which("chroot", path="/usr/sbin:/sbin:/usr/bin:/bin"))
+        ran = run(root, "/icserve", "reduce", "/addition.ic", program=chroot)
         if ran.status != 125:
             self.equals(ran.command, "how it ends", (0, b"<S(S(S(S(Z))))|>\n", b""), ran[1:4])
 
