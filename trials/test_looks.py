@@ -299,15 +299,18 @@ class Pictures(Trial):
             self.equals(f"trace --rounds {rounds}", "bars, and points, the first of them before the rounds", wanted, (len(bars), points))
 
     def test_the_pictures_in_docs_are_what_the_program_prints(self):
-        """docs/NAME.svg is the trace of examples/NAME.ic, and docs/NAME-N.svg that of its first N rounds. The picture of the
-        floors is one of the crates (`checks/floors.py`)."""
+        """docs/NAME.svg is the trace of examples/NAME.ic, and docs/NAME-N.svg that of its first N rounds. That of `fibonacci` is of
+        the rich text, for a greater number. The picture of the floors is one of the crates (`checks/floors.py`)."""
         pictures = sorted({*TOP.glob("docs/*.svg")} - {TOP / "docs/floors.svg"})
         self.equals("docs/", f"at least five pictures: {pictures}", True, len(pictures) >= 5)
         for picture in pictures:
             name, dash, count = picture.stem.partition("-")
             words = ["--rounds", count] if dash else []
             with self.subTest(picture=picture.name):
-                text = (TOP / "examples" / f"{name}.ic").read_bytes()
+                if name == "fibonacci":
+                    text = (TOP / "examples/fibonacci.rich").read_bytes().replace(b"= 10>", b"= 28>")
+                else:
+                    text = (TOP / "examples" / f"{name}.ic").read_bytes()
                 self.runs("trace", "--format", "svg", *words, given=text, out=picture.read_bytes())
 
 
