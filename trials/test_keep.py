@@ -849,8 +849,9 @@ class Keep(Stops):
         return ran, [it for it in noted(self.log) if it.kind in "WST"]
 
     def test_a_keep_waits_for_the_disk_between_its_phases_alone(self):
-        """Gate, state with length and number, gate: each is there for good before the next. The first keep finds a closed gate."""
-        begins, first, later = "WSWSWWWSWS", "WWWSWS", "WSWWWSWS"
+        """Gate, state, length, number, gate: each is there for good before the next. The first keep finds a closed gate. A number that
+        is torn stands before a whole state, so that its file isn't taken for another one."""
+        begins, first, later = "WSWS" + "WS" * 4, "WS" * 4, "WS" * 5
         for most, wanted in ((20, begins + first), (40, later), (60, later)):
             ran, calls = self.life(ackermann(2), most, most == 20)
             kinds = "".join(it.kind for it in calls)

@@ -147,10 +147,10 @@ impl<D: Disk> Keeper<D> {
         ensures model { KeepsModel D.keeps self.old → KeepsModel D.keeps self.new }
         ensures counted { CountsKeep result (D.failures (other_of self.old))
             (D.failures (written_disk result self.new)) }
-        // It makes at most eight calls to the disk that it writes, and six over a closed gate.
-        ensures calls { D.clock (written_disk result self.new) ≤ D.clock (other_of self.old) + 8 }
+        // It makes at most ten calls to the disk that it writes, and eight over a closed gate.
+        ensures calls { D.clock (written_disk result self.new) ≤ D.clock (other_of self.old) + 10 }
         ensures few_calls { is_closed self.old ≡ true
-            → D.clock (written_disk result self.new) ≤ D.clock (other_of self.old) + 6 }
+            → D.clock (written_disk result self.new) ≤ D.clock (other_of self.old) + 8 }
     {
         self.check_usable()?;
         self.broken = true;

@@ -1,8 +1,6 @@
-//! Writing a state into one file: its gate is closed for good before anything of the state is written, and opened once all of
-//! it is there for good.
+//! Writing a state into one file, each part on the disk for good before the next.
 
 ghost use Rattle.std.specs.Prelude.{◌≡◌, ◌⊎◌, ◌+◌, ◌≤◌, ℕ, true, List, IsTrue, OnOk};
-ghost use Rattle.ic_disk.specs.Content.{laid};
 ghost use Rattle.ic_disk.specs.Images.{Within};
 ghost use Rattle.ic_disk.specs.Time.{CountsFailure, LeavesOnly};
 ghost use Rattle.ic_kept.specs.Sheet.{IsAfterGate, IsBelow, IsBeside, IsNewest, IsOlder, IsShut};
@@ -25,25 +23,11 @@ fn close_gate<D: Disk>(disk: &mut D) -> Result<(), DiskFault>
     Ok(())
 }
 
-// Writes bytes behind a closed gate, and doesn't wait for them. Whatever a crash leaves of them, the gate stays closed.
-fn write_behind<D: Disk>(disk: &mut D, at: u64, bytes: &[u8]) -> Result<(), DiskFault>
-    requires { 1 ≤ at }
-    ensures keeps { D.keeps disk.new ≡ D.keeps disk.old }
-    ensures counted { CountsFailure result (D.failures disk.old) (D.failures disk.new) }
-    ensures calls { D.clock disk.new ≤ D.clock disk.old + 1 }
-    ensures any_moment { IsTrue (D.keeps disk.old) → Within (D.image disk.old) IsShut
-        → LeavesOnly D.clock D.left disk.old disk.new IsShut }
-    ensures written { IsTrue (D.keeps disk.old)
-        → OnOk result (D.content disk.new ≡ laid at bytes.now (D.content disk.old)) }
-{
-    disk.write_at(at, bytes)
-}
-
-// Writes a state, its length and its number after a closed gate, and then waits for them all.
+// Writes a state, its length and its number after a closed gate.
 pub(crate) fn write_state<D: Disk>(disk: &mut D, number: u64, state: &[u8]) -> Result<(), DiskFault>
     ensures keeps { D.keeps disk.new ≡ D.keeps disk.old }
     ensures counted { CountsFailure result (D.failures disk.old) (D.failures disk.new) }
-    ensures calls { D.clock disk.new ≤ D.clock disk.old + 4 }
+    ensures calls { D.clock disk.new ≤ D.clock disk.old + 6 }
     ensures any_moment { IsTrue (D.keeps disk.old) → Within (D.image disk.old) IsShut
         → LeavesOnly D.clock D.left disk.old disk.new IsShut }
     ensures shut { IsTrue (D.keeps disk.old) → Within (D.image disk.old) IsShut
@@ -51,8 +35,8 @@ pub(crate) fn write_state<D: Disk>(disk: &mut D, number: u64, state: &[u8]) -> R
     ensures after { IsTrue (D.keeps disk.old) → Within (D.image disk.old) IsShut
         → OnOk result (Within (D.image disk.new) (IsAfterGate number state.now)) }
 {
-    write_behind(disk, HEAD, state)?;
-    write_behind(disk, 9, &(state.len() as u64).to_be_bytes())?;
+    write_synced(disk, HEAD, state)?;
+    write_synced(disk, 9, &(state.len() as u64).to_be_bytes())?;
     write_synced(disk, 1, &number.to_be_bytes())?;
     Ok(())
 }
@@ -77,7 +61,7 @@ pub(crate) fn open_gate<D: Disk>(disk: &mut D) -> Result<(), DiskFault>
 fn write_shut<D: Disk>(disk: &mut D, number: u64, state: &[u8]) -> Result<(), DiskFault>
     ensures keeps { D.keeps disk.new ≡ D.keeps disk.old }
     ensures counted { CountsFailure result (D.failures disk.old) (D.failures disk.new) }
-    ensures calls { D.clock disk.new ≤ D.clock disk.old + 6 }
+    ensures calls { D.clock disk.new ≤ D.clock disk.old + 8 }
     ensures any_moment { IsTrue (D.keeps disk.old) → Within (D.image disk.old) IsShut
         → LeavesOnly D.clock D.left disk.old disk.new
         (λ file. IsShut file ⊎ IsNewest number state.now file) }
@@ -98,8 +82,8 @@ pub(crate) fn write_beside<D: Disk>(
 ) -> Result<(), DiskFault>
     ensures keeps { D.keeps disk.new ≡ D.keeps disk.old }
     ensures counted { CountsFailure result (D.failures disk.old) (D.failures disk.new) }
-    ensures calls { D.clock disk.new ≤ D.clock disk.old + 8 }
-    ensures few_calls { closed ≡ true → D.clock disk.new ≤ D.clock disk.old + 6 }
+    ensures calls { D.clock disk.new ≤ D.clock disk.old + 10 }
+    ensures few_calls { closed ≡ true → D.clock disk.new ≤ D.clock disk.old + 8 }
     ensures any_moment { (n : ℕ) → IsTrue (D.keeps disk.old)
         → Within (D.image disk.old) (IsBeside closed n)
         → LeavesOnly D.clock D.left disk.old disk.new
