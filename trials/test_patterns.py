@@ -120,7 +120,8 @@ class Worked(Trial):
             ("{number S Z; list C N;\n F(r) >< [x] => r~x}", "2:12", "rules have N here, and none has C: F(r)><C(x,C(..)) has no rule"),
             ("{number S Z;\n F(A,r) >< S(0) => r~Z; F(B,r) >< S(Z) => r~Z; F(B,r) >< S(S(x)) => r~x}", "2:14", "rules have Z here, and none has S: F(A,r)><S(S(..)) has no rule"),
         ):
-            ran = run("check", "--rich", "-", given=rules + "\n<r|F(r)=S(S(Z))>")
+            side = "F(B,r)" if "F(B," in rules else "F(r)"
+            ran = run("check", "--rich", "-", given=f"{rules}\n<r|{side}=S(S(Z))>")
             holes = [it for it in ran.out.decode().splitlines() if "here, and none" in it]
             self.equals(ran.command, "its holes", [f"-:{place}: warning: {sentence}"], holes)
         for text in ("{number S Z; F(r) >< S(S(n)) => r~n; F(r) >< S(Z) => r~Z} <r|F(r)=3>", "{F(r) >< S(S(n)) => r~n} <r|F(r)=S(S(Z))>"):
