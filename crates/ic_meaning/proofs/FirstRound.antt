@@ -191,7 +191,7 @@ module _ (laws : RoundLaws) (rs : Rules) (numbers : List ℕ) (p : Plans) (given
   reach_first : Reaches rs.rules c front_net []
   reach_first = laws.going.reach.net rs c c front_net [] (laws.going.start rs c named) to_first
 
-  stands_first : Stands rs n start.interface starts.first
+  pub stands_first : Stands rs n start.interface starts.first
   stands_first = record { pieces = first_pieces; named = to_first.names_too; over = laws.going.reach.over rs c front_net [] set over named reach_first }
 
   -- registers

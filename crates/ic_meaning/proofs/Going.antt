@@ -197,7 +197,7 @@ stuck_moved e now es xs moved =
     (IsPermutation-append_left xs (map equated_of now) (equated_of e ∷ map equated_of es) (IsPermutation-map equated_of now (e ∷ es) moved))
     (IsPermutation-sym (map equated_of es ++ (equated_of e ∷ xs)) (equated_of e ∷ (map equated_of es ++ xs)) (IsPermutation-middle (map equated_of es) (equated_of e) xs))
 
-moved_stands : GoingLaws → (rs : Rules) (numbers : List ℕ) (p : Plans) (n : Numbers) (i : List Word) (e : Equation) (now es : List Equation) (xs : List Piece) → Plain rs numbers p n
+pub moved_stands : GoingLaws → (rs : Rules) (numbers : List ℕ) (p : Plans) (n : Numbers) (i : List Word) (e : Equation) (now es : List Equation) (xs : List Piece) → Plain rs numbers p n
     → Stands rs n i (map equated_of now ++ xs) → IsPermutation now (e ∷ es) → Stands rs n i (map equated_of es ++ (equated_of e ∷ xs))
 moved_stands laws rs numbers p n i e now es xs given s moved =
     stands_on laws rs numbers p n i [] (map equated_of now ++ xs) (map equated_of es ++ (equated_of e ∷ xs)) given s

@@ -1,6 +1,6 @@
 -- Lemmas: rounds that a machine makes in place are those of its configuration.
 use Rattle.std.proofs.Common.{◌≡◌, ℕ, zero, suc, ◌+◌, ◌<◌, ◌≤◌, List, [], ◌∷◌, ◌++◌, length, map, take, drop, refl, sym, ap, ◌∙◌, append_assoc, append-nil, arith, subst as transport}
-use Rattle.std.proofs.lemmas.List.{map-append}
+use Rattle.std.proofs.lemmas.List.{map-append, take-append-drop}
 use Rattle.std.proofs.Math.Seq.{take-append_seam, drop-append_seam}
 use Rattle.std.proofs.lemmas.List.Sorted.{IsPermutation-refl, IsPermutation-append_comm}
 use Rattle.std.specs.Prelude.{IsPermutation, IsTrue}
@@ -29,6 +29,7 @@ use Rattle.ic_machine.specs.Separate.{IsSeparate}
 use Rattle.ic_machine.specs.Steps.{Steps, no_step}
 use Rattle.ic_machine.specs.lemmas.FiringKeeps.{all_append}
 use Rattle.ic_machine.specs.lemmas.GenerationsOn.{takes_on}
+use Rattle.ic_machine.specs.lemmas.RunsOn.{ran_steps}
 use Rattle.ic_machine.specs.lemmas.StepsOn.{steps_through}
 use Rattle.ic_meaning.specs.First.{LinksPairsFirst}
 use Rattle.ic_meaning.specs.Generations.{KeepsNet, FireAsRounds}
@@ -36,7 +37,11 @@ use Rattle.ic_meaning.specs.InPlace.{AreRounds, begun, goes_on, put_through, nex
 use Rattle.ic_meaning.specs.Words.{Numbers, AreNumbers}
 use Rattle.ic_meaning.specs.Nets.{net_of, IsStuckPiece}
 use Rattle.ic_meaning.specs.Plans.{ArePlansOf, StandsForNet, rule_number}
-use Rattle.ic_meaning.proofs.FirstRound.{n as numbers_of, sound as numbers_are_sound, to_start as first_net, now as first_now, now_pairs as first_pairs, first_round}
+use Rattle.ic_meaning.specs.lemmas.Orders.{all_front}
+use Rattle.ic_meaning.proofs.AgentsStay.{steps_beside}
+use Rattle.ic_meaning.proofs.Completed.{takes_all}
+use Rattle.ic_meaning.proofs.FirstRound.{n as numbers_of, sound as numbers_are_sound, plain as first_plain, stands_first as first_stands, to_start as first_net, now as first_now, now_pairs as first_pairs, first_round}
+use Rattle.ic_meaning.proofs.Going.{Stands, stands_on}
 use Rattle.ic_meaning.proofs.Rounds.{RoundLaws, OneRound, AreGiven, one_round, stuck_pieces, first_round as a_round_first}
 
 -- ---- lists
@@ -152,6 +157,25 @@ module _ (laws : RoundLaws) (rs : Rules) (numbers : List ℕ) (p : Plans) (n : N
         stuck = st.stuck;
       }
 
+-- the pieces of a machine in rounds come of those with which it began
+rounds_steps : (p : Plans) (first : Net) (pairs : ℕ) (over : List (List ℕ)) (now : List ℕ) (g : Generation) (m : Net) → AreRounds p first pairs over now g m
+    → (fired : List ℕ) × Steps p fired (pieces first) (pieces m)
+rounds_steps p first pairs over now g m begun = ([], no_step (pieces first) (pieces first) (IsPermutation-refl (pieces first)))
+rounds_steps p first pairs over now g m (goes_on over' before g' h old new so_far a) =
+    let rest = rounds_steps p first pairs over' before g' old so_far in
+    (rest.0 ++ a.ran.fired, steps_through p rest.0 a.ran.fired (pieces first) (pieces old) (pieces new) rest.1 (ran_steps p old new a.ran))
+rounds_steps p first pairs over now g m (put_through over' now' g' old new so_far same steps) =
+    let rest = rounds_steps p first pairs over' now' g' old so_far in
+    let front = map equated_of old.pending in
+    let set = map equated_of old.aside in
+    let put = steps_beside p [] front (set ++ old.places) (set ++ new.places) refl (steps_beside p [] set old.places new.places refl (places_alone p old.places new.places (steps []))) in
+    let all : Steps p [] (pieces old) (pieces new) = transport (λ (l : Net). Steps p [] (pieces old) (pieces l)) (sym same) put in
+    (rest.0 ++ [], steps_through p rest.0 [] (pieces first) (pieces old) (pieces new) rest.1 all)
+  where
+    places_alone : (q : Plans) (xs ys : List Piece) → Steps q [] (xs ++ []) (ys ++ []) → Steps q [] xs ys
+    places_alone q xs ys alone = transport (λ l. Steps q [] l ys) (append-nil xs) (transport (Steps q [] (xs ++ [])) (append-nil ys) alone)
+rounds_steps p first pairs over now g m (next_round over' now' g' m' so_far done at) = rounds_steps p first pairs over' now' g' m' so_far
+
 module _ (laws : RoundLaws) (rs : Rules) (numbers given operands : List ℕ) (p : Plans) (c : Configuration) (plan : Planned) (pairs : ℕ) (start : Net)
     (set : IsRuleSet rs) (over_symbols : IsTrue (is_over rs.symbols c)) (named : HasNames c) (plans : ArePlans p) (of_rules : ArePlansOf rs numbers p) (few : length p.arities < GIVEN)
     (is_plan : IsPlan p.arities (length given) plan) (s : StandsForNet p.arities given c plan operands) (parted : LinksPairsFirst p.arities (length given) plan pairs)
@@ -228,3 +252,25 @@ module _ (laws : RoundLaws) (rs : Rules) (numbers given operands : List ℕ) (p 
         transport (λ (l : List Word). OneNet (net_of n l (pieces m)) (iterate rs.rules (length over + 1) c)) (sym st.interface) net,
         fire_more rs.rules numbers over now c st.fired one.rules,
       )
+
+  -- where a round is broken off, what has fired in it is a part of what the round fires
+  pub round_under_way : AreGiven n c → (over : List (List ℕ)) (now : List ℕ) (g : Generation) (m : Net) → AreRounds p start pairs over now g m → AllByRecursion IsPair m.pending
+      → FireAsRounds rs.rules numbers over c
+      × ((rest : List ℕ) × IsPermutation (map (rule_number numbers) now ++ rest) (rules_of rs.rules (iterate rs.rules (length over) c).equations))
+  round_under_way free over now g m so_far are_pairs =
+      let st = stage free over now g m so_far in
+      let given_all = first_plain laws rs numbers p given c plan operands pairs start few set over_symbols named plans of_rules is_plan s parted starts separate in
+      let begun_with = first_stands laws rs numbers p given c plan operands pairs start few set over_symbols named plans of_rules is_plan s parted starts separate in
+      let reached = rounds_steps p start pairs over now g m so_far in
+      let es = present g m.pending in
+      let xs = beside (later g m.pending) m in
+      let split : pieces m ≡ map equated_of es ++ xs =
+      ap (λ l. map equated_of l ++ (map equated_of m.aside ++ m.places)) (sym (take-append-drop g.end m.pending))
+      ∙ (ap (λ l. l ++ (map equated_of m.aside ++ m.places)) (map-append equated_of es (later g m.pending)) ∙ append_assoc (map equated_of es) (map equated_of (later g m.pending)) (map equated_of m.aside ++ m.places)) in
+      let all = steps_through p [] reached.0 starts.first (pieces start) (pieces m) starts.steps reached.1 in
+      let stands = transport (Stands rs n start.interface) split (stands_on laws.going rs numbers p n start.interface reached.0 starts.first (pieces m) given_all begun_with all) in
+      let front = all_front IsPair es (later g m.pending) (transport (AllByRecursion IsPair) (sym (take-append-drop g.end m.pending)) are_pairs) in
+      let more = takes_all laws.going rs numbers p n start.interface given_all es xs front stands in
+      let one = st.go_on (now ++ more.0) more.1 (takes_on p st.es es [] now more.0 st.xs xs more.1 st.takes more.2) in
+      let part = transport (λ l. IsPermutation l (rules_of rs.rules (iterate rs.rules (length over) c).equations)) (map-append (rule_number numbers) now more.0) one.rules in
+      (st.fired, (map (rule_number numbers) more.0, part))

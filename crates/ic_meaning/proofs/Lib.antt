@@ -21,6 +21,7 @@ pub mod Removed
 pub mod AgentsStay
 pub mod Meetings
 pub mod Going
+pub mod Completed
 pub mod Rounds
 pub mod Joined
 pub mod PairsStay

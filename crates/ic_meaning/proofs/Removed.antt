@@ -18,7 +18,7 @@ Left x fs r = (s : List _) × Removed x fs s × IsPermutation r s
 abbrev LeftAlike : {X : Type 0} → List X → List X → Type 0
 LeftAlike {X = X} es fs = IsPermutation es fs × ((x : X) (r : List X) → Removed x es r → Left x fs r)
 
-two_first : {X : Type 0} (x y : X) (xs : List X) → IsPermutation (x ∷ y ∷ xs) (y ∷ x ∷ xs)
+pub two_first : {X : Type 0} (x y : X) (xs : List X) → IsPermutation (x ∷ y ∷ xs) (y ∷ x ∷ xs)
 two_first x y xs = IsPermutation-swap (x ∷ y ∷ xs) (y ∷ x ∷ xs) 0 1 (omega arith) (omega arith) refl
 
 moved_from : {X : Type 0} (r es fs : List X) → r ≡ es → IsPermutation es fs → IsPermutation r fs

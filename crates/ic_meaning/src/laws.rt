@@ -271,3 +271,38 @@ pub fn rounds_in_place_are_rounds()
     ic_generations::laws::name_steps_may_wait_for_a_round();
     ic_generations::laws::a_generation_is_a_round();
 }
+
+/// What has fired in a round that is under way is a part of what the round fires: with others, it is
+/// as many pairs of each rule.
+pub fn what_fires_in_a_round_is_of_it()
+    ensures { (rs : Rules) (numbers given operands : List ℕ) (p : Plans) (c : Configuration)
+        (plan : Planned) (pairs : ℕ) (first m : Net) (over : List (List ℕ)) (now : List ℕ)
+        (g : Generation) → IsRuleSet rs → IsTrue (is_over rs.symbols c) → HasNames c
+        → ArePlans p → ArePlansOf rs numbers p → length p.arities < GIVEN
+        → IsPlan p.arities (length given) plan → StandsForNet p.arities given c plan operands
+        → ((x : ℕ) → (occurrences x (configuration_names c) ≡ 1)
+        ↔ ((j : ℕ) × (slice_get given j ≡ Some x)))
+        → LinksPairsFirst p.arities (length given) plan pairs
+        → Starts p (length given) plan operands first
+        → IsSeparate p.arities first.interface (pieces first) → first.aside ≡ []
+        → AreRounds p first pairs over now g m → AllByRecursion IsPair m.pending
+        → FireAsRounds rs.rules numbers over c × ((rest : List ℕ)
+        × IsPermutation (map (rule_number numbers) now ++ rest)
+        (rules_of rs.rules (iterate rs.rules (length over) c).equations)) }
+{
+    ic_confluence::laws::every_order_settles_to_the_same_net();
+    ic_reaching::laws::where_names_begin_is_no_matter();
+    ic_reaching::laws::where_names_begin_is_all_that_differs();
+    ic_reaching::laws::one_net_is_an_equivalence();
+    ic_reaching::laws::a_name_step_leads_to_one_net();
+    ic_reaching::laws::the_order_of_equations_is_no_matter();
+    ic_reaching::laws::a_piece_is_put_for_its_name();
+    ic_reaching::laws::pieces_are_put_in_turn();
+    ic_reaching::laws::free_names_stay();
+    ic_reaching::laws::what_is_reached_is_one_net();
+    ic_reaching::laws::what_is_reached_goes_on();
+    ic_generations::laws::active_equations_fire_in_any_order();
+    ic_generations::laws::where_names_begin_is_no_matter_to_rounds();
+    ic_generations::laws::name_steps_may_wait_for_a_round();
+    ic_generations::laws::a_generation_is_a_round();
+}
