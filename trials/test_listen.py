@@ -422,6 +422,13 @@ class Ends(Listens):
             self.equals("20 runs", "what came", set(answers[:-1]) - {"closed: the server has ended"}, {"ran 1000"})
             self.equals(listening.command, "status, and what it said", (0, ""), listening.end(None))
 
+    def test_shutdown_is_answered_after_the_lines_before_it(self):
+        for lines, wanted in ((["list"], b"jobs\n"), ([f"submit two {TWO.text}", "run 10", "fetch no", "wait two"], b"accepted\nran 2\nrefused nojob\ntwo done 2 <S(S(Z))|>\n")):
+            with self.listening(disk=self.disk(f"{len(lines)}.disk")) as listening, listening.client() as one:
+                one.send(*lines, "shutdown", "list")
+                self.agrees(lines, "what came", wanted + b"ok\nclosed: the server has ended\n", one.rest())
+                self.equals(listening.command, "status, and what it said", (0, ""), listening.end(None))
+
     def test_a_socket_that_is_left_is_taken_and_nothing_else_is(self):
         disk = self.disk()
         with self.listening(disk=disk) as listening:
@@ -505,7 +512,7 @@ class Sends(Listens):
         with self.listening():
             ran = self.send(given=b"list\n" + b"x" * (LONGEST + 1))
             self.ended(ran, f"jobs\nclosed: long line: a line has at most {LONGEST} bytes\n", status=1)
-        told = b"icserve-send: the server has ended, and 1 lines have no answer: `list` and `fetch` tell what was done\n"
+        told = b"icserve-send: the server has ended, and a line has no answer: `list` and `fetch` tell what was done\n"
         for kills_child, wanted in ((True, (1, b"closed: the server has ended\n", b"")), (False, (1, b"", told))):
             with self.listening(disk=self.disk(f"{kills_child}.disk")) as listening:
                 with listening.client() as client:
@@ -541,21 +548,35 @@ class Sends(Listens):
 
     def test_at_a_terminal_it_asks_for_lines(self):
         with self.listening() as listening:
-            main, other = pty.openpty()
-            self.addCleanup(os.close, main)
-            command = [sys.executable, TOP / "send", "--socket", listening.path]
-            env = {**os.environ, "TERM": "dumb", "XDG_STATE_HOME": str(self.room)}
-            with subprocess.Popen(command, stdin=other, stdout=other, stderr=other, env=env, start_new_session=True) as started:
-                self.addCleanup(started.kill)
-                os.close(other)
-                for line, wanted in (("list", b"jobs\r\n"), ("help", b"wait NAME, shutdown\r\n"), ("fetch no", b"refused nojob\r\n")):
-                    self.shows(main, b"> ")
-                    os.write(main, line.encode() + b"\n")
-                    self.shows(main, wanted)
+            self.is_asked("--socket", listening.path)
+        (self.room / "icserve/history").unlink()
+        self.is_asked("--disk", self.disk("own.disk"))
+
+    def is_asked(self, *words):
+        """Types lines at a prompt: each is answered, and they are remembered."""
+        main, other = pty.openpty()
+        self.addCleanup(os.close, main)
+        command = [sys.executable, TOP / "send", *words]
+        env = {**os.environ, "TERM": "dumb", "XDG_STATE_HOME": str(self.room), "ICSERVE": PROGRAM}
+        with subprocess.Popen(command, stdin=other, stdout=other, stderr=other, env=env, start_new_session=True) as started:
+            self.addCleanup(started.kill)
+            os.close(other)
+            for line, wanted in (("list", b"jobs\r\n"), ("help", b"wait NAME, shutdown\r\n"), ("fetch no", b"refused nojob\r\n")):
                 self.shows(main, b"> ")
-                os.write(main, b"\x04")
-                self.equals(command, "the status", 0, started.wait(PATIENCE / 4))
-            self.equals("the history", "its lines", ["list", "help", "fetch no"], (self.room / "icserve/history").read_text().split("\n")[:3])
+                os.write(main, line.encode() + b"\n")
+                self.shows(main, wanted)
+            self.shows(main, b"> ")
+            os.write(main, b"\x04")
+            self.equals(command, "the status", 0, started.wait(PATIENCE / 4))
+        self.equals("the history", "its lines", ["list", "help", "fetch no"], (self.room / "icserve/history").read_text().split("\n")[:3])
+
+    def test_a_server_of_ones_own_is_asked_over_a_disk(self):
+        disk, env = self.disk("own.disk"), {**os.environ, "ICSERVE": PROGRAM}
+        how = {"program": TOP / "send", "env": env}
+        self.ended(run("--disk", disk, f"submit two {TWO.text}", "run 10", " ", "fetch two", **how), ["accepted", "ran 2", "two done 2 <S(S(Z))|>"])
+        self.ended(run("--disk", disk, given=b"list\n\nlist", **how), ["jobs two:done:2"] * 2)
+        with self.listening(disk=disk):
+            self.ended(run("--disk", disk, "list", **how), b"", b"icserve: locked\n", status=6)
 
 
 class Ssh(Hosts, Listens):

@@ -58,12 +58,18 @@ class Pages(Trial):
         for it in ("listen", "send"):
             (self.room / it).symlink_to(TOP / it)
         self.disk()
-        for page in ("README.md", "docs/share.md"):
-            commands = next(it for it in map(typed_in, blocks_of(page)) if any("./listen" in command for command, _ in it))
-            # Who types waits until the server is there.
-            waits = "while ! [ -S /tmp/shared.sock ]; do sleep 0.02; done"
-            text = [f"{it[:-1].strip()} 2>/dev/null & {waits}" if it.endswith("&") else it for it, _ in commands]
+        consoles = [(page, it) for page in ("README.md", "docs/share.md") for it in map(typed_in, blocks_of(page)) if any("./listen" in command for command, _ in it)]
+        self.equals("README.md and docs/share.md", "how many sessions there are", 3, len(consoles))
+        for page, commands in consoles:
+            text = [self.at_leisure(it) for it, _ in commands]
             self.typed(page, text, [line for _, answer in commands for line in answer])
+
+    def at_leisure(self, command):
+        """A command of such a session as one types it who waits until the server is there. A killed one's socket is taken away, so
+        that the next one's is waited for."""
+        if command.startswith("kill"):
+            return f"{command}; rm /tmp/*.sock"
+        return f"{command[:-1].strip()} 2>/dev/null & while ! [ -S /tmp/*.sock ]; do sleep 0.02; done" if command.endswith("&") else command
 
     def test_the_session_of_the_readme_prints_what_the_readme_says(self):
         section = (TOP / "README.md").read_text().split("## A session")[1].split("\n## ")[0]
