@@ -2,7 +2,7 @@
 .ONESHELL:
 .SILENT:
 .SHELLFLAGS = -ec
-.PHONY: help build prove check trials install uninstall dist bench bench-clients clean icserve
+.PHONY: help build prove check trials install uninstall dist bench bench-clients bench-kept clean icserve
 PREFIX = $(HOME)/.local
 # Where below PREFIX this Python looks for packages.
 PACKAGES = $(shell python3 -c 'import sysconfig; print(sysconfig.get_path("purelib", "posix_prefix", {"base": ""}).lstrip("/"))')
@@ -54,6 +54,9 @@ bench-clients: # times a server: changes in a second of 1, 8 and 64 clients, als
 	! command -v cc >/dev/null || cc -O1 -shared -fPIC -o out/shim.so trials/shim.c -ldl -lpthread
 	program="$$(ICSERVE_BUILD=found ./icserve)"
 	python3 bench/clients.py "$$program" $$([ ! -x out/shim.so ] || echo --shim out/shim.so) $(WITH)
+bench-kept: # times reductions that are kept beside those that aren't, by one thread and by several; WITH=.. hands on words
+	program="$$(ICSERVE_BUILD=found ./icserve)"
+	python3 bench/kept.py "$$program" $(WITH)
 clean: # removes what was built, and what is kept of proofs
 	rm -rf out crates/*/out
 

@@ -1,4 +1,5 @@
-"""`make bench` times the program on each of its systems, and `make bench-clients` a server: here on tiny ones."""
+"""`make bench` times the program on each of its systems, `make bench-clients` a server, and `make bench-kept` reductions that are
+kept: here on tiny ones."""
 
 import os
 import re
@@ -79,6 +80,16 @@ class Bench(Trial):
         self.equals("make bench-clients", "how many rows of laps there are", 5, len(found) - len(wanted))
         for cells in found[1 : len(wanted) - 1] + found[len(wanted) :]:
             self.equals(cells, "whether each cell has a figure", True, all(re.fullmatch(r"[\d,.]+", it) for it in cells[-2:]))
+
+    def test_reductions_that_are_kept_are_timed_beside_those_that_are_not(self):
+        command = ["make", "-s", "bench-kept", f"WITH={PROGRAM} --turns 1 --size 0.001"]
+        ran = subprocess.run(command, cwd=self.room, stdin=subprocess.DEVNULL, capture_output=True, text=True, timeout=120)
+        self.equals(" ".join(command), "status and standard error", (0, ""), (ran.returncode, ran.stderr))
+        found = [[it.strip() for it in line.strip("|").split("|")] for line in ran.stdout.splitlines() if re.match(r"\| \w", line)]
+        self.equals("make bench-kept", "the programs of the first table", ["1", "2"] * 5, [it[0] for it in found[1:11]])
+        self.equals("make bench-kept", "how many nets there are by several threads", 4, len(found[12:]))
+        self.equals("make bench-kept", "whether each cell has a figure", [], [it for it in found[1:11] + found[12:] for cell in it[2:] if not re.fullmatch(r"[\d,.]+", cell)])
+        self.equals("make bench-kept", "the folders that it has left", [], [it.name for it in self.room.glob("kept-*")])
 
     def test_another_program_stands_beside_and_one_that_answers_otherwise_is_told(self):
         for other, more in ((PROGRAM, []), (shutil.which("true"), ["answers otherwise"])):
