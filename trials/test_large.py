@@ -7,7 +7,7 @@ import shutil
 import signal
 import time
 
-from program import PROGRAM, grows_to
+from program import PROGRAM, grows_to, run
 from shards import SCRIPTS, kill
 from texts import FIBONACCI, Texts, drawn_text, numeral
 
@@ -132,16 +132,16 @@ class Large(Texts):
     def test_what_is_refused_cut_or_begun_is_told(self):
         add = "{Add(x,x)><Z;Add(S(x),y)><S(Add(x,y))}"
         self.write({"bad": "{A><B", "circle": "{} <|x=A(x)>", "done": f"{add} <r|Add(r,Z)=Z>", "loop": LOOP, "stuck": "{A><B} <|A=A,A=B>", "wide": f"{add} <r|Add(r,Z)={numeral(9)}>"})
-        self.ended(self.script("table", "texts"), out=["name\tstate\tinteractions\tseconds\tnodes\ttold", *(f"{it}\twaiting\t-\t-\t-\t-" for it in ("bad", "circle", "done", "loop", "stuck", "wide"))])
+        self.ended(self.script("table", "texts"), out=["name\tstate\tinteractions\trounds\tseconds\tnodes\ttold", *(f"{it}\twaiting\t-\t-\t-\t-\t-" for it in ("bad", "circle", "done", "loop", "stuck", "wide"))])
         for words, status in ((["texts/bad.ic"], 1), (["texts/circle.ic"], 0), (["texts/done.ic"], 0), (["texts/loop.ic", "--steps", "7"], 5), (["texts/stuck.ic"], 0)):
             ran = self.script("large", *words)
             self.equals(ran.command, f"status; it said {ran.err}", status, ran.status)
         rows = [it.split("\t") for it in self.script("table", "texts").out.decode().splitlines()[1:]]
         told = [["bad", "refused", "-", "bad syntax"], ["circle", "circling", "0", "A"], ["done", "done", "1", "-"], ["loop", "begun", "7", "-"], ["stuck", "stuck", "1", "A><A"], ["wide", "waiting", "-", "-"]]
-        self.equals("table texts", "its rows, without seconds and nodes", told, [[*it[:3], it[5]] for it in rows])
+        self.equals("table texts", "its rows, without seconds and nodes", told, [[*it[:3], it[6]] for it in rows])
         progress = self.script("progress", "texts").out.decode().splitlines()
         kept = [self.room / f"texts/loop.ic.{it}" for it in ("keep", "keep.2")]
-        line = rf"loop: interactions 7, (-|\d+) a second, words {rows[3][4]}, bytes {sum(it.stat().st_size for it in kept)}"
+        line = rf"loop: interactions 7, (-|\d+) a second, words {rows[3][5]}, bytes {sum(it.stat().st_size for it in kept)}"
         self.assertRegex(progress[0], f"^{line}$")
         self.equals("progress texts", "the last line", "6 texts: done 1, stuck 1, circling 1, refused 1, begun 1, waiting 1, interactions 9", progress[-1])
         self.equals("gather --there texts", "the states", [b"circling", b"done", b"stuck"], [it.split()[1] for it in self.script("gather", "--there", "texts").out.splitlines()])
@@ -152,6 +152,24 @@ class Large(Texts):
         self.equals(ran.command, f"status; it said {ran.err}", 5, ran.status)
         rows = [it.split("\t")[:3] for it in self.script("table", "texts").out.decode().splitlines()[1:]]
         self.equals("table texts", "its rows", [["bad", "refused", "-"], ["circle", "circling", "0"], ["done", "done", "1"], ["loop", "begun", "100"], ["stuck", "stuck", "1"], ["wide", "done", "10"]], rows)
+
+    def test_a_text_goes_by_rounds_where_that_is_asked_for(self):
+        """Its rounds stand in the table: at its end they are the span that is told in any order."""
+        text = f"{FIBONACCI} <r|F(r)={numeral(9)}>"
+        self.write({"one": text, "two": text})
+        told = run("reduce", "--span", "--format", "json", given=text).err
+        wanted = next(json.loads(it) for it in told.decode().splitlines() if it.startswith("{"))
+        for words, status in ((["texts/one.ic", "--rounds", "7"], 5), (["texts/two.ic"], 0), (["texts/one.ic", "--steps", "9"], 3)):
+            ran = self.script("large", *words)
+            self.equals(ran.command, f"status; it said {ran.err}", status, ran.status)
+        rows = [it.split("\t") for it in self.script("table", "texts").out.decode().splitlines()[1:]]
+        self.equals("table texts", "states and rounds", [["begun", "7"], ["done", "-"]], [[it[1], it[3]] for it in rows])
+        self.ended(self.script("large", "texts/one.ic", f"--rounds={wanted['span']}"))
+        rows = [it.split("\t")[1:4] for it in self.script("table", "texts").out.decode().splitlines()[1:]]
+        ended = ["done", str(wanted["interactions"])]
+        self.equals("table texts", "its rows", [[*ended, str(wanted["span"])], [*ended, "-"]], rows)
+        ran = self.script("large", "texts/one.ic", "--rounds", "7", "--workers", "2")
+        self.equals(ran.command, "status and standard output", (2, b""), (ran.status, ran.out))
 
     def test_a_text_whose_device_is_full_fails_and_goes_on_once_there_is_room(self):
         """What is kept first is refused for its size, and then what is kept at the end."""
