@@ -79,6 +79,31 @@ class Scripts(Shards):
         os.umask(before)
         return before
 
+    def test_a_text_in_a_file_takes_the_place_of_its_name(self):
+        (self.room / "texts").mkdir()
+        (self.room / "texts/my sum.rich").write_text("{Add(r,n) >< Z => r ~ n;  # sums\n Add(r,n) >< S(m) => r ~ S(w), Add(w,n) ~ m}\n<r | Add(r,Z) ~ S(Z)>\n")
+        (self.room / "texts/two.rich").write_text("{} <|> <|>")
+        (self.room / "texts/bad.rich").write_text("{A(r) >< B => r ~ n}\n<|>")
+        here = self.room.resolve()
+        (self.room / "jobs.txt").write_text(f"{TWICE}\n\n submit sum 7 @{here}/texts/my sum.rich \r\nsubmit a\t@texts/my sum.rich\n{NONE}\n")
+        ran = self.script("cut", "--jobs", 3, "jobs.txt", "new")
+        self.equals(ran.command, "status and what is told", (0, b"", b""), (ran.status, ran.out, ran.err))
+        lines = [it.split(None, 2) for it in (self.room / "new/00001/lines").read_text().splitlines()]
+        self.equals(ran.command, "the names of the first shard", ["two", "sum", "a"], [it[1] for it in lines])
+        self.equals(ran.command, "the second shard", f"{NONE}\n", (self.room / "new/00002/lines").read_text())
+        for line, budget in ((lines[1], "7 "), (lines[2], "")):
+            answer = run("reduce", given=line[2].removeprefix(budget))
+            self.equals(line, "what it comes to", (0, b"<S(Z)|>\n"), (answer.status, answer.out))
+        for name, status, said in (
+            ("two", 1, "cut: jobs.txt:2: ./texts/two.rich has several configurations, and a job has one\n"),
+            ("bad", 1, "cut: jobs.txt:2: bad syntax\n./texts/bad.rich, line 1, column 19\n"),
+            ("none", 4, "cut: jobs.txt:2: read\n./texts/none.rich: open: no such file or folder\n"),
+        ):
+            (self.room / "jobs.txt").write_text(f"{TWICE}\nsubmit b @texts/{name}.rich\n")
+            ran = self.script("cut", "jobs.txt", "newer")
+            self.equals(ran.command, "status, and what is told", (status, said.encode()), (ran.status, ran.err[: len(said)]))
+            self.is_left("jobs.txt", "new", "texts")
+
     def test_a_file_of_jobs_with_a_fault_is_refused_with_its_line(self):
         """Three jobs a shard, so that a fault stands in a shard of its own and in a line of its own."""
         good = [f"submit a{it} {{}} <|>" for it in range(10)]

@@ -502,6 +502,25 @@ class Sends(Listens):
             lines = b"fetch two\n" * 5_000
             self.ended(self.send(given=lines), b"two done 2 <S(S(Z))|>\n" * 5_000)
 
+    def test_texts_in_files_are_sent_as_expand_writes_them(self):
+        sum_of = self.room / "my sum.rich"
+        sum_of.write_text("{number S Z;  # sums\n Add(r,n) >< Z => r ~ n;\n Add(r,n) >< S(m) => r ~ S(w), Add(w,n) ~ m}\n<r | Add(r,1) ~ 2>\n")
+        (self.room / "plain.ic").write_text(TWO.text.replace("<r|", "\n<r|"))
+        (self.room / "two.rich").write_text("{} <|> <|>")
+        (self.room / "bad.rich").write_text("{A(r) >< B => r ~ n}\n<|>")
+        with self.listening():
+            sent = self.send(f"submit sum @{sum_of}", f"  submit\tfew 1 @{self.room}/plain.ic \r", "run 10", "fetch sum", "fetch few")
+            self.ended(sent, ["accepted", "accepted", "ran 4", "sum done 3 <S(S(S(Z)))|>", "few spent 1 <S(s)|Z=Add(s,S(Z))>"])
+            for name, said in (
+                ("none.rich", f"read\n{self.room}/none.rich: open: no such file or folder\n"),
+                ("two.rich", "it has several configurations, and a job has one\n"),
+                ("bad.rich", f"bad syntax\n{self.room}/bad.rich, line 1, column 19\n"),
+            ):
+                ran = self.send(f"submit other @{self.room}/{name}", "fetch other", given=b"")
+                self.equals(ran.command, "status and answers", (1, b"refused nojob\n"), (ran.status, ran.out))
+                told = f"icserve-send: {self.room}/{name} is not submitted: {said}".encode()
+                self.equals(ran.command, "what is told", told, (ran.err + ran.after)[: len(told)])
+
     def test_at_a_line_that_is_answered_by_bad_it_is_told_what_tells_more(self):
         told = "icserve-send: a line was answered `bad`: `icserve check -` tells what is wrong in such lines\n"
         with self.listening():

@@ -1,6 +1,7 @@
 """A client of a server: one of its own over a disk, or one that others share, at a socket."""
 
 import os
+import re
 import socket
 import subprocess
 import threading
@@ -8,6 +9,7 @@ import time
 from pathlib import Path
 from typing import IO, Any, Dict, List, NamedTuple, Optional, Union
 
+from .nets import expand
 from .program import Refusal, program, run
 
 PathText = Union[str, "os.PathLike[str]"]
@@ -147,7 +149,10 @@ class Server:
         return answer
 
     def submit(self, name: str, text: str, budget: Optional[int] = None) -> None:
-        """Puts a new job last in the table; with a budget it makes at most so many rounds."""
+        """Puts a new job last in the table; with a budget it makes at most so many rounds. A text that begins with `#rich` is
+        expanded first."""
+        if re.match(r"#rich(\s|\Z)", text):
+            text = expand(text)
         self._done(f"submit {name} {f'{budget} ' if budget is not None else ''}{text}")
 
     def copy(self, old: str, new: str) -> None:
