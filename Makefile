@@ -2,7 +2,7 @@
 .ONESHELL:
 .SILENT:
 .SHELLFLAGS = -ec
-.PHONY: help build prove check trials install uninstall dist bench bench-clients bench-kept clean icserve
+.PHONY: help build prove check trials install uninstall dist deb bench bench-clients bench-kept clean icserve
 PREFIX = $(HOME)/.local
 # Where below PREFIX this Python looks for packages.
 PACKAGES = $(shell python3 -c 'import sysconfig; print(sysconfig.get_path("purelib", "posix_prefix", {"base": ""}).lstrip("/"))')
@@ -18,7 +18,7 @@ check: # the gate, ./gate: proves all from nothing, and tries edits, rows and th
 trials: # tries the program that ./icserve runs
 	program="$$(ICSERVE_BUILD=found ./icserve)"
 	ICSERVE="$$program" python3 trials
-install: # puts the program into PREFIX/bin (if not said ~/.local/bin), the proved one where it is there, its scripts, their manual pages and completions, the library and the Python package
+install: # puts the program into PREFIX/bin (if not said ~/.local/bin), the proved one where it is there, its scripts, their manual pages and completions, the library, the examples and the Python package
 	to="$(DESTDIR)$(patsubst ~/%,$(HOME)/%,$(PREFIX))"
 	program="$$(ICSERVE_BUILD=found ./icserve)"
 	install -vD "$$program" "$$to/bin/icserve"
@@ -27,6 +27,8 @@ install: # puts the program into PREFIX/bin (if not said ~/.local/bin), the prov
 	install -vDm 644 -t "$$to/$(PACKAGES)/icserve" python/icserve/*.py python/icserve/py.typed
 	install -vDm 644 -t "$$to/$(PACKAGES)/icserve/page" python/icserve/page/*.*
 	install -vDm 644 -t "$$to/share/icserve/lib" lib/*.rich
+	install -vDm 644 -t "$$to/share/icserve/examples" examples/*
+	install -vD -t "$$to/share/icserve/cluster" cluster/*
 uninstall: # removes from PREFIX what install puts there
 	from="$(DESTDIR)$(patsubst ~/%,$(HOME)/%,$(PREFIX))"
 	for it in icserve icserve-film icserve-listen icserve-send icserve-page; do
@@ -35,15 +37,17 @@ uninstall: # removes from PREFIX what install puts there
 	done
 	rm -rfv "$$from/$(PACKAGES)/icserve" "$$from/share/icserve"
 dist: # makes a release in out/dist, an archive and a package of Debian: of the proved program, or with UNPROVED=1 of one that isn't
-	rm -rf out/dist
+	at=out/icserve name=icserve-unproved
 	if [ -n "$(UNPROVED)" ]; then
 	    ICSERVE_BUILD=unproved ./icserve
-	    python3 share/dist.py out/icserve icserve-unproved out/dist
 	else
-	    at="$$(ICSERVE_BUILD=found ./icserve)"
+	    at="$$(ICSERVE_BUILD=found ./icserve)" name=icserve
 	    case $$at in */crates/icserve/out/icserve) ;; *) echo "make dist: the proved program isn't there: make prove proves it, and UNPROVED=1 takes another" >&2; exit 1 ;; esac
-	    python3 share/dist.py "$$at" icserve out/dist
 	fi
+	rm -rf out/dist
+	python3 share/dist.py "$$at" $$name out/dist
+deb: # makes the same: the package of Debian stands beside the archive
+	$(MAKE) dist
 bench: # times the program on the systems of docs/speed.md, beside a plain one where there is a C compiler; WITH=.. hands on words, of which WITH=--help tells
 	mkdir -p out
 	! command -v cc >/dev/null || cc -O2 -o out/plain bench/plain.c

@@ -22,27 +22,41 @@ import pages  # noqa: E402
 # The oldest C library with which the program runs: that of Debian 12, Ubuntu 22.04 and Fedora 35 is as new.
 GLIBC = "2.34"
 
-START = """icserve reduces interaction nets. Begin with
+START = """icserve reduces interaction nets. Begin in this folder with
 
     {at}icserve reduce examples/addition.ic     which prints <S(S(S(S(Z))))|>
     {at}icserve help                            which tells the other commands
     {at}icserve help language                   which tells how nets are written
+    {python}
 
-It needs Linux on x86-64 with glibc {glibc} or later. The scripts icserve-film, -listen, -send and -page beside it need Python 3.8 or
-later, and film and pictures Graphviz. {where}
-It was made from the sources {commit}, whose pages are README.md and docs/.
+and read on in README.md, whose commands may be typed {typed}.
+It needs Linux on x86-64 with glibc {glibc} or later. The scripts icserve-film, -listen, -send and -page beside it need Python 3.8
+or later, and film and pictures Graphviz.
+{where}
+It was made from the commit {commit}.
 
 {version}
 sources {sources}
 {proved}
 """
 
+# What prints the same sum from Python.
+PYTHON = """python3 -c "import icserve; print(icserve.reduce(open('examples/addition.ic').read()))\""""
+
 # What else is told, by what a release is.
-ARCHIVE = """Put bin/ on the path, or copy bin/, share/ and lib/ below /usr/local. Here ./icserve,
-./film, ./listen, ./send and ./page are those in bin/, so the commands of README.md and docs/ may be typed as they stand there. The rules
-of lib/ are in share/icserve/lib. Python finds its package with PYTHONPATH=lib/python3/dist-packages."""
-PACKAGE = """The examples are in this folder, and the rules of lib/ in
-/usr/share/icserve/lib."""
+ARCHIVE = {
+    "at": "./",
+    "python": f"PYTHONPATH=python {PYTHON}",
+    "typed": "here as they stand there",
+    "where": """To have icserve everywhere, put bin/ on the path, or copy bin/ and share/ below /usr/local. Then `pip install ./python` gives
+Python its package; it needs no network.""",
+}
+PACKAGE = {
+    "at": "",
+    "python": PYTHON,
+    "typed": "here, with icserve for ./icserve, and icserve-film for ./film",
+    "where": "The rules of lib/ and the scripts of cluster/ are in /usr/share/icserve.",
+}
 
 PROVED = "This program was built from functions each of which the Rattle kit has proved to meet its contract."
 UNPROVED = "This program was built from the same sources, but not by way of their proofs. It is slower than the proved one."
@@ -70,12 +84,12 @@ def said(*command, **env):
     return ran.stdout.strip() if ran.returncode == 0 else ""
 
 
-def told_in(name, version, at, where):
+def told_in(name, version, release):
     """What a release tells of itself: how to begin, and what it was made from."""
     sources = said("./icserve", ICSERVE_BUILD="sources").split(" ")[0]
     commit = said("git", "describe", "--always", "--dirty") or "of no commit"
     proved = UNPROVED if name.endswith("unproved") else PROVED
-    return START.format(at=at, where=where, glibc=GLIBC, commit=commit, version=version, sources=sources, proved=proved)
+    return START.format(glibc=GLIBC, commit=commit, version=version, sources=sources, proved=proved, **release)
 
 
 def moment():
@@ -84,7 +98,7 @@ def moment():
 
 
 def lay(program, root):
-    """Puts what is installed into a folder: programs, pages, completions, the library and the Python package."""
+    """Puts what is installed into a folder: programs, pages and completions, the library, examples and the scripts for many machines."""
     (root / "bin").mkdir(parents=True)
     shutil.copy(program, root / "bin/icserve")
     for name, script in pages.SCRIPTS.items():
@@ -93,9 +107,12 @@ def lay(program, root):
         it.chmod(0o755)
     with contextlib.redirect_stdout(io.StringIO()):
         pages.main(str(root / "bin/icserve"), str(root))
-    package = root / "lib/python3/dist-packages/icserve"
-    shutil.copytree(TOP / "python/icserve", package, ignore=shutil.ignore_patterns("__pycache__"))
-    shutil.copytree(TOP / "lib", root / "share/icserve/lib")
+    for it in ("lib", "examples", "cluster"):
+        copy(TOP / it, root / "share/icserve" / it)
+
+
+def copy(folder, to):
+    shutil.copytree(folder, to, ignore=shutil.ignore_patterns("__pycache__", "*.egg-info", "build"))
 
 
 def archive(folder, path):
@@ -123,7 +140,7 @@ def package(name, version, folder, path):
     size = sum(it.stat().st_size for it in folder.rglob("*") if it.is_file()) // 1024
     control.write_text(CONTROL.format(name=name, version=version, glibc=GLIBC, size=size))
     for it in sorted(folder.rglob("*")):
-        it.chmod(0o755 if it.is_dir() or it.parent.name == "bin" else 0o644)
+        it.chmod(0o755 if it.is_dir() or it.stat().st_mode & 0o100 else 0o644)
         os.utime(it, (moment(), moment()))
     env = {**os.environ, "SOURCE_DATE_EPOCH": str(moment())}
     subprocess.run(["dpkg-deb", "--root-owner-group", "-Zgzip", "--build", folder, path], check=True, env=env, stdout=subprocess.DEVNULL)
@@ -138,21 +155,25 @@ def main(program, name, folder):
     with tempfile.TemporaryDirectory() as room:
         tree = Path(room, f"{name}-{version}")
         lay(program, tree)
-        (tree / "START").write_text(told_in(name, says, "./", ARCHIVE))
+        (tree / "START").write_text(told_in(name, says, ARCHIVE))
         shutil.copy(TOP / "README.md", tree)
-        for it in ("docs", "examples", "cluster"):
-            shutil.copytree(TOP / it, tree / it)
+        for it in ("docs", "examples", "cluster", "lib", "python"):
+            copy(TOP / it, tree / it)
         for it in ("icserve", *pages.SCRIPTS):
             (tree / it.split("-")[-1]).symlink_to(f"bin/{it}")
         made.append(folder / f"{name}-{version}-linux-x86_64.tar.gz")
         archive(tree, made[-1])
         if shutil.which("dpkg-deb"):
             root = Path(room, "deb")
-            lay(program, root / "usr")
-            doc = root / "usr/share/doc" / name
-            doc.mkdir(parents=True)
-            (doc / "START").write_text(told_in(name, says, "", PACKAGE))
-            shutil.copytree(TOP / "examples", doc / "examples")
+            for it in ("bin", "share"):
+                copy(tree / it, root / "usr" / it)
+            copy(TOP / "python/icserve", root / "usr/lib/python3/dist-packages/icserve")
+            doc = root / "usr/share/doc/icserve"
+            copy(TOP / "docs", doc / "docs")
+            shutil.copy(TOP / "README.md", doc)
+            (doc / "START").write_text(told_in(name, says, PACKAGE))
+            for it in ("lib", "examples", "cluster"):
+                (doc / it).symlink_to(f"../../icserve/{it}")
             made.append(folder / f"{name}_{version}_amd64.deb")
             package(name, version, root, made[-1])
     sums = "".join(f"{hashlib.sha256(it.read_bytes()).hexdigest()}  {it.name}\n" for it in made)

@@ -7,7 +7,7 @@ import shutil
 import subprocess
 import sys
 
-from program import IN_MEMORY, PROGRAM, TOP, Trial, run
+from program import IN_MEMORY, PATIENCE, PROGRAM, TOP, Trial, run
 from test_pages import blocks_of, typed_in
 from test_words import words_of_help
 
@@ -164,7 +164,7 @@ class Releases(Trial):
     def test_the_same_program_gives_the_same_release_and_it_works_by_itself(self):
         for it in ("one", "two"):
             command = [sys.executable, TOP / "share/dist.py", PROGRAM, "icserve", self.room / it]
-            subprocess.run([str(it) for it in command], check=True, stdout=subprocess.DEVNULL, timeout=60)
+            subprocess.run([str(it) for it in command], check=True, stdout=subprocess.DEVNULL, timeout=PATIENCE)
         names = sorted(it.name for it in (self.room / "one").iterdir())
         self.equals("dist.py", "whether an archive is there", True, any(it.endswith("-linux-x86_64.tar.gz") for it in names))
         for it in names:
@@ -173,8 +173,8 @@ class Releases(Trial):
         archive = next((self.room / "one").glob("*.tar.gz"))
         subprocess.run(["tar", "-xzf", archive, "-C", self.room], check=True)
         tree = next(self.room.glob("icserve-*"))
-        self.works(tree, "")
-        self.types(tree, {})
+        self.works(tree, "", tree / "python")
+        self.types(tree, {}, "README.md", "docs/expand.md")
         self.stands_alone(tree)
         wanted = run("--version").out.decode() + "sources [0-9a-f]{64}\n"
         self.assertRegex((tree / "START").read_text(), wanted.replace("(", "\\(").replace(")", "\\)"))
@@ -189,35 +189,36 @@ class Releases(Trial):
         (root / "var/lib/dpkg/status").touch()
         dpkg = ["dpkg", f"--root={root}", "--force-not-root", "--force-bad-path", "--force-depends"]
         for words in (["--install", package], ["--purge", "icserve"]):
-            ran = subprocess.run([*dpkg, *map(str, words)], stdout=subprocess.PIPE, stderr=subprocess.STDOUT, timeout=60)
+            ran = subprocess.run([*dpkg, *map(str, words)], stdout=subprocess.PIPE, stderr=subprocess.STDOUT, timeout=PATIENCE)
             self.equals(words, f"the status; it said {ran.stdout}", 0, ran.returncode)
             if words[0] == "--install":
-                self.works(root / "usr", "share/doc/icserve")
-                self.types(root / "usr/share/doc/icserve", {"./icserve": root / "usr/bin/icserve", "./film": root / "usr/bin/icserve-film"})
+                self.works(root / "usr", "share/doc/icserve", root / "usr/lib/python3/dist-packages")
+                self.types(root / "usr/share/doc/icserve", {"./icserve": root / "usr/bin/icserve", "./film": root / "usr/bin/icserve-film"}, "README.md")
         left = [it for it in root.rglob("*") if "var" not in it.relative_to(root).parts[:1]]
         self.equals("dpkg --purge", "what is left", [], left)
 
-    def types(self, room, programs):
-        """What README.md says is typed prints in a folder what README.md says, with few other programs on the path. Servers have trials
-        of their own."""
+    def types(self, room, programs, *pages):
+        """What these pages say is typed prints in a folder what they say, with few other programs on the path. Servers have trials of
+        their own."""
         tools = self.room / "tools"
         tools.mkdir(exist_ok=True)
         for name, path in {"python3": sys.executable, **{it: shutil.which(it) for it in TOOLS}}.items():
             if path and not (tools / name).exists():
                 (tools / name).symlink_to(path)
-        how = {"cwd": room, "env": {"PATH": str(tools), "PYTHONDONTWRITEBYTECODE": "1"}, "stdin": subprocess.DEVNULL, "timeout": 60}
-        typed = 0
-        for block in blocks_of("README.md"):
-            is_served = any(re.search(r"icserve serve|\./send", it) for it in block)
-            for command, wanted in [] if is_served else typed_in(block):
+        how = {"cwd": room, "env": {"PATH": str(tools), "PYTHONDONTWRITEBYTECODE": "1"}, "stdin": subprocess.DEVNULL, "timeout": PATIENCE}
+        for page in pages:
+            self.holds(room / page, (TOP / page).read_bytes())
+            blocks = [it for it in blocks_of(page) if not any(re.search(r"icserve serve|\./send", line) for line in it)]
+            typed = [it for block in blocks for it in typed_in(block)]
+            self.equals(page, "whether commands are typed", True, len(typed) >= 4)
+            for command, wanted in typed:
                 if (tools / "dot").exists() or not re.search(r"(^|\| )(dot|\./film) ", command):
                     text = command.replace("/tmp/", f"{self.room}/")
                     for name, program in programs.items():
                         text = text.replace(name, str(program))
                     ran = subprocess.run([shutil.which("sh"), "-c", text], stdout=subprocess.PIPE, stderr=subprocess.STDOUT, **how)
-                    self.equals(text, "what it prints", "".join(f"{it}\n" for it in wanted), ran.stdout.decode())
-                    typed += 1
-        self.equals("README.md", "whether commands are typed", True, typed >= 4)
+                    printed = ran.stdout.decode().replace(f"{self.room}/", "/tmp/")
+                    self.equals(text, "what it prints", "".join(f"{it}\n" for it in wanted), printed)
 
     def stands_alone(self, tree):
         """In a root that has nothing but the C library the program answers, where this user may have such a root."""
@@ -225,7 +226,7 @@ class Releases(Trial):
         if not chroot:
             return
         root = self.room / "alone"
-        said = subprocess.run(["ldd", tree / "bin/icserve"], stdout=subprocess.PIPE, check=True, timeout=60).stdout.decode()
+        said = subprocess.run(["ldd", tree / "bin/icserve"], stdout=subprocess.PIPE, check=True, timeout=PATIENCE).stdout.decode()
         copied = {it: it for it in re.findall(r"(/\S+) \(", said)}
         for at, it in {**copied, "/icserve": tree / "bin/icserve", "/addition.ic": tree / "examples/addition.ic"}.items():
             (root / at[1:]).parent.mkdir(parents=True, exist_ok=True)
@@ -234,14 +235,16 @@ class Releases(Trial):
         if ran.status != 125:
             self.equals(ran.command, "how it ends", (0, b"<S(S(S(S(Z))))|>\n", b""), ran[1:4])
 
-    def works(self, root, pages):
+    def works(self, root, pages, packages):
         """Fails unless what stands below a folder works without anything of this clone."""
-        env = {"PATH": f"{root}/bin:/usr/bin:/bin", "PYTHONPATH": str(root / "lib/python3/dist-packages"), "PYTHONDONTWRITEBYTECODE": "1"}
+        env = {"PATH": f"{root}/bin:/usr/bin:/bin", "PYTHONPATH": str(packages), "PYTHONDONTWRITEBYTECODE": "1"}
         how = {"env": env, "cwd": self.room}
         self.runs("reduce", root / pages / "examples/addition.ic", out=["<S(S(S(S(Z))))|>"], program=root / "bin/icserve", **how)
         for it in ("film", "listen", "send", "page"):
             self.equals(it, "the status of its help", 0, run("--help", program=root / f"bin/icserve-{it}", **how).status)
-        script = "import icserve; print(icserve.settle('<r|r=Z>'))"
+        script = "import icserve, icserve.page; print(icserve.settle('<r|r=Z>'), *sorted(icserve.page.examples({})['examples']))"
+        texts = [it.stem if it.suffix == ".ic" else it.name for it in (TOP / "examples").iterdir() if it.suffix in (".ic", ".rich")]
+        texts += [f"lib/{it.name}" for it in (TOP / "lib").glob("*.rich")]
         how["env"] = {**env, "PATH": "/usr/bin:/bin"}
         ran = run("-c", script, program=sys.executable, **how)
-        self.equals(script, f"what it prints; it said {ran.err}", b"<Z|>\n", ran.out)
+        self.equals(script, f"what it prints; it said {ran.err}", " ".join(["<Z|>", *sorted(texts)]) + "\n", ran.out.decode())

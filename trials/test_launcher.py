@@ -64,7 +64,8 @@ class Launcher(Trial):
         for name in ("icserve", "film", "listen", "send", "page", "Makefile"):
             shutil.copy(TOP / name, self.room / name)
         shutil.copytree(TOP / "python/icserve", self.room / "python/icserve", ignore=shutil.ignore_patterns("__pycache__"))
-        shutil.copytree(TOP / "lib", self.room / "lib")
+        for it in ("lib", "examples", "cluster"):
+            shutil.copytree(TOP / it, self.room / it, ignore=shutil.ignore_patterns("__pycache__"))
         (self.room / "crates.txt").write_text("low:\nicserve: low\n")
         for part in ("src", "specs", "proofs"):
             (self.room / "crates/icserve" / part).mkdir(parents=True)

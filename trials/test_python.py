@@ -173,7 +173,7 @@ class Servers(Package):
         disk, path, came = self.disk(), self.room / "socket", []
 
         def ask():
-            with self.icserve.Server(socket=path) as server:
+            with self.icserve.Server(socket=path, wait=60) as server:
                 came.append(server.list())
 
         client = threading.Thread(target=ask)
@@ -182,7 +182,7 @@ class Servers(Package):
         with Listening(disk, path):
             client.join()
         self.equals("Server(socket=..)", "the jobs", [[]], came)
-        self.raised(FileNotFoundError, self.icserve.Server, socket=self.room / "none")
+        self.raised(FileNotFoundError, self.icserve.Server, socket=self.room / "none", wait=1)
 
     def test_a_server_that_ends_is_told_of(self):
         server = self.icserve.Server(self.room / "jobs.disk")

@@ -49,7 +49,8 @@ class ServerEnded(Exception):
 
 class Server:
     """A server of jobs, used in a `with`. Over a disk it is a process of its own, which nobody else may use meanwhile; the disk is
-    made where it is wanting. At a socket it is one that `icserve-listen` runs.
+    made where it is wanting. At a socket it is one that `icserve-listen` runs. `wait` says for how many seconds a disk or a socket
+    is waited for: none and 3, if it isn't given.
 
     >>> import tempfile
     >>> room = tempfile.TemporaryDirectory()
@@ -62,15 +63,17 @@ class Server:
     [Job(name='two', state='done', rounds=2, text=None)]
     """
 
-    def __init__(self, disk: Optional[PathText] = None, *, socket: Optional[PathText] = None, every: int = 100, wait: int = 0) -> None:
+    def __init__(
+        self, disk: Optional[PathText] = None, *, socket: Optional[PathText] = None, every: int = 100, wait: Optional[int] = None
+    ) -> None:
         if (disk is None) == (socket is None):
             raise ValueError("either a disk or a socket is wanted")
         self._lock = threading.Lock()
         self._process: Optional["subprocess.Popen[bytes]"] = None
         if disk is not None:
-            self._start(disk, every, wait)
+            self._start(disk, every, wait or 0)
         else:
-            self._connect(os.fspath(socket))  # type: ignore[arg-type]
+            self._connect(os.fspath(socket), 3 if wait is None else wait)  # type: ignore[arg-type]
 
     def _start(self, disk: PathText, every: int, wait: int) -> None:
         if not Path(disk).exists():
@@ -83,9 +86,9 @@ class Server:
         self._came: IO[bytes] = self._process.stdout  # type: ignore[assignment]
         self.list()
 
-    def _connect(self, path: str) -> None:
+    def _connect(self, path: str, wait: int) -> None:
         there = socket.socket(socket.AF_UNIX)
-        for _ in range(30):
+        for _ in range(10 * wait):
             # It may have been begun just now.
             try:
                 there.connect(path)

@@ -36,9 +36,8 @@ GRAPH = 60_000
 # A call's body is at most this: its text, of which each byte may take six, and what else it says.
 BODY = 6 * BYTES + 10_000
 
-# Where examples are, and the library: those of the clone or archive, or of the package of Debian.
-EXAMPLES = [HERE.parents[2] / "examples", HERE.parents[4] / "examples", Path("/usr/share/doc/icserve/examples")]
-LIBRARY = [HERE.parents[2] / "lib", HERE.parents[4] / "share/icserve/lib", Path("/usr/share/icserve/lib")]
+# The clone or archive in which this file is, where it is in one.
+CLONE = HERE.parents[2]
 
 # The page takes its own scripts and styles alone, pictures that it makes itself, and films in a frame.
 POLICY = "default-src 'none'; script-src 'self'; style-src 'self'; connect-src 'self'; img-src blob:; frame-src 'self'; base-uri 'none'; form-action 'none'; frame-ancestors 'none'"
@@ -163,10 +162,11 @@ def at(rules: str, config: str) -> Dict[str, Any]:
         return {"config": config, "pairs": len(pairs), "svg": "", "limit": str(limit)}
 
 
-def files(places: List[Path], pattern: str) -> List[Path]:
-    """The files of the first of these folders that is there."""
-    folder = next((it for it in places if it.is_dir()), None)
-    return sorted(folder.glob(pattern)) if folder else []
+def files(folder: str, pattern: str) -> List[Path]:
+    """The files of a folder of the clone or archive, or of what is installed beside the program."""
+    places = (CLONE / folder, Path(program()).resolve().parent.parent / "share/icserve" / folder)
+    place = next((it for it in places if it.is_dir()), None)
+    return sorted(place.glob(pattern)) if place else []
 
 
 def rich(path: Path) -> str:
@@ -176,9 +176,9 @@ def rich(path: Path) -> str:
 
 
 def examples(_: Dict[str, Any]) -> Dict[str, Any]:
-    found = {it.stem: it.read_text() for it in files(EXAMPLES, "*.ic")}
-    found.update((it.name, rich(it)) for it in files(EXAMPLES, "*.rich"))
-    found.update((f"lib/{it.name}", rich(it)) for it in files(LIBRARY, "*.rich"))
+    found = {it.stem: it.read_text() for it in files("examples", "*.ic")}
+    found.update((it.name, rich(it)) for it in files("examples", "*.rich"))
+    found.update((f"lib/{it.name}", rich(it)) for it in files("lib", "*.rich"))
     return {"examples": found}
 
 
