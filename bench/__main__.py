@@ -109,7 +109,7 @@ def write(options):
 
 
 def as_line(what, cells):
-    return f"{what:52}{''.join(f'{it:>19}' for it in cells)}"
+    return f"{what:52}{''.join(f'{it:>22}' for it in cells)}"
 
 
 def main():
