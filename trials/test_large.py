@@ -142,7 +142,8 @@ class Large(Texts):
         progress = self.script("progress", "texts").out.decode().splitlines()
         kept = [self.room / f"texts/loop.ic.{it}" for it in ("keep", "keep.2")]
         line = rf"loop: interactions 7, (-|\d+) a second, words {rows[3][5]}, bytes {sum(it.stat().st_size for it in kept)}"
-        self.assertRegex(progress[0], f"^{line}$")
+        self.equals("progress texts", "its lines of what is stuck, circling or refused", ["bad: refused, bad syntax", "circle: circling, A", "stuck: stuck, A><A"], [progress[0], progress[1], progress[3]])
+        self.assertRegex(progress[2], f"^{line}$")
         self.equals("progress texts", "the last line", "6 texts: done 1, stuck 1, circling 1, refused 1, begun 1, waiting 1, interactions 9", progress[-1])
         self.equals("gather --there texts", "the states", [b"circling", b"done", b"stuck"], [it.split()[1] for it in self.script("gather", "--there", "texts").out.splitlines()])
         ran = self.script("gather", "texts")
