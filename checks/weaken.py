@@ -28,6 +28,7 @@ RECORD = re.compile(r"^( *)(?:pub )?record (\S+)(?:.|\n)*? where\n((?:\1  .*\n|\
 DEFINITION = re.compile(r"^ *(?:(?:abbrev|unfoldable) (?:pub )?|(?:pub )?data )(\S+)((?:.|\n(?=[ ]|\1\b))*)", re.M)
 LEMMA = re.compile(r"^(?:pub )?([A-Za-z_]\S*) : ((?:.|\n(?=  ))*)", re.M)
 ERROR = re.compile(r"^(?:note: )?(?:\./)?(\S+?\.(?:antt|rt)):(\d+):\d+: (?:error: (?!.*that depend)|(?=it is not))(.*(?:\n  .*)*)", re.M)
+IMPORTS = re.compile(r"use Rattle\.(\w+)\.specs\.[\w.]+\.\{([^}]*)\}")
 CITES = re.compile(r"\bRattle\.(\w+)\.specs\.(\w+)(?=[.\s;]*(?:\{|;|as\b|\n))")  # a module of definitions: crate and name
 STATES = re.compile(r"^( *)(?:abbrev )?pub (\S+) : (?:.|\n\1 )*?Type 0\n((?:\1\2 (?:.|\n\1 )*\n)+)", re.M)
 DATA = re.compile(r"^( *)pub data (\S+)(?:.|\n\1 )*? where\n((?:\1  .*\n)+)", re.M)
@@ -139,16 +140,19 @@ class Tree:
 
 
 def used(text, sign=1):
-    """The words of a type, each with 1 where it is concluded, and -1 where it is assumed."""
+    """The words of a type, each with 1 where it is concluded, -1 where it is assumed, and 0 where it is both: on one side of `↔`."""
     text = text.strip()
     for mark in "→↔⊎×":
         parts = [text[slice(*it)] for it in parted(text, mark, 0, len(text))]
+        if len(parts) > 1 and mark == "↔":
+            sides = [{name for name, _ in used(part)} for part in parts]
+            for name in set.union(*sides):
+                yield from [(name, 0)] if sum(name in it for it in sides) == 1 else [(name, 1), (name, -1)]
+            return
         if len(parts) > 1:
             for part in parts[:-1]:
                 yield from used(part, -sign if mark == "→" else sign)
-                yield from used(part, -sign) if mark == "↔" else ()
             yield from used(parts[-1], sign)
-            yield from used(parts[-1], -sign) if mark == "↔" else ()
             return
     if text.startswith("¬"):
         yield from used(text[1:], -sign)
@@ -185,20 +189,32 @@ class Uses:
     """Whether clauses assume or conclude what definitions say."""
 
     def __init__(self):
-        self.inside, self.of = defaultdict(list), {}
+        self.inside, self.of, self.homes = defaultdict(list), {}, defaultdict(set)
         crates = TOP / "crates"
-        for crate in libraries():
-            for path in sorted((crates / crate / "specs").rglob("*.antt")):
-                for name, parts in definitions(plain(path)):
-                    self.inside[name] += parts
-                    if path.parent == crates / crate / "specs":
-                        self.of.setdefault(name, f"{crate}.{path.stem}")
+        specs = [(it, path) for it in libraries() for path in sorted((crates / it / "specs").rglob("*.antt"))]
+        for crate, path in specs:
+            for name, _ in definitions(plain(path)):
+                self.homes[name].add(crate)
+        for crate, path in specs:
+            for name, parts in definitions(self.told_apart(crate, path)):
+                self.inside[name] += parts
+                if path.parent == crates / crate / "specs":
+                    self.of.setdefault(name, f"{crate}.{path.stem}")
         self.signs = {name: {it for part in parts for it in used(part) if it[0] in self.inside} for name, parts in self.inside.items()}
         self.assumed, self.concluded = set(), set()
         for crate in libraries():
             for path in (crates / crate / "src").rglob("*.rt"):
-                for _, kind, says in clauses(plain(path)):
+                for _, kind, says in clauses(self.told_apart(crate, path)):
                     self.add(says, kind in ["requires", "invariant"])
+
+    def told_apart(self, crate, path):
+        """A file without its imports, in which a name that several crates define has its crate after it."""
+        names = {it: (it, crate) for it, _ in definitions(plain(path))}
+        for of, listed in IMPORTS.findall(path.read_text()):
+            parts = (it.strip().partition(" as ") for it in listed.split(","))
+            names |= {local or name: (name, of) for name, _, local in parts}
+        names = {it: f"{name}'{of}" for it, (name, of) in names.items() if len(self.homes[name]) > 1}
+        return WORD.sub(lambda found: names.get(found[0], found[0]), plain(path))
 
     def all_of(self, says):
         """The definitions in a clause, and those in what they say, each with how it is used."""
@@ -213,17 +229,18 @@ class Uses:
 
     def add(self, says, is_both):
         found = self.all_of(says)
-        yes, no = {it for it, sign in found if sign > 0}, {it for it, sign in found if sign < 0}
-        self.concluded |= yes | no if is_both else yes - no
-        self.assumed |= yes | no if is_both else no - yes
+        yes, no, both = ({it for it, sign in found if sign == of} for of in [1, -1, 0])
+        self.concluded |= both | (yes | no if is_both else yes - no)
+        self.assumed |= both | (yes | no if is_both else no - yes)
 
     def unheeded(self, chosen):
         """The definitions that are only assumed, and those that are only concluded."""
         for name, place in sorted(self.of.items(), key=lambda it: it[1]):
+            told = f"{place}.{name.split(chr(39) + 'ic')[0]}"
             if place.split(".")[0] in chosen and (name in self.assumed) != (name in self.concluded):
-                yield f"{place}.{name}: only {'assumed' if name in self.assumed else 'concluded'}"
+                yield f"{told}: only {'assumed' if name in self.assumed else 'concluded'}"
             elif place.split(".")[0] in chosen and name not in self.assumed:
-                yield f"{place}.{name}: only carried, or in no clause"
+                yield f"{told}: only carried, or in no clause"
 
 
 def parted(text, sign, start, end):
