@@ -1,7 +1,6 @@
 #!/usr/bin/env python3
 """Times reductions that are kept beside those that aren't, as docs/speed.md tells them: a net that grows to so many nodes, texts of a
-million, a resume with its memory, and nets by several threads. Programs take their turns, and each ratio is the median of those of
-the turns."""
+million, a resume with its memory, and nets by several threads. Programs take their turns, and each figure is the median of some."""
 
 import argparse
 import contextlib
@@ -23,7 +22,7 @@ NO_BOUND = 2**60
 
 
 class Ran(NamedTuple):
-    """How many seconds a program ran, and how many MB it took at most."""
+    """How many seconds a program ran, or processors were at it, and how many MB it took at most."""
 
     seconds: float
     memory: float
@@ -32,7 +31,8 @@ class Ran(NamedTuple):
 class Kept:
     """Runs programs on a text, with what they keep in a folder."""
 
-    def __init__(self, folder):
+    def __init__(self, folder, least):
+        self.least = least
         self.text, self.out, self.err, self.kept = (f"{folder}/{it}" for it in ("text", "out", "err", "kept"))
 
     def run(self, program, *words):
@@ -45,7 +45,7 @@ class Kept:
         took = time.perf_counter() - began
         if os.waitstatus_to_exitcode(status) not in (0, 5):
             sys.exit(f"bench: {' '.join(command)}: {Path(self.err).read_text()}")
-        return Ran(took, usage.ru_maxrss / 1024)
+        return Ran(usage.ru_utime + usage.ru_stime if self.least else took, usage.ru_maxrss / 1024)
 
     def clear(self):
         for it in ("", ".2"):
@@ -71,7 +71,7 @@ def head(*cells):
 
 
 def median(turns, told):
-    return statistics.median(told(it) for it in turns)
+    return statistics.median(map(told, turns))
 
 
 def of_nodes(size):
@@ -96,6 +96,8 @@ def of_keeps(options, kept):
         turns = [[kept.turn(it, 30, steps, []) for it in options.program] for _ in range(options.turns)]
         for at in range(len(options.program)):
             mine = [it[at] for it in turns]
+            if options.least:
+                mine = [[Ran(*map(min, zip(*of_run))) for of_run in zip(*mine)]]
             seconds = [f"{median(mine, lambda it: it[run].seconds):.2f}" for run in range(3)]
             memory = [f"{median(mine, lambda it: it[run].memory):,.0f}" for run in range(3)]
             ratio = f"{median(mine, lambda it: it[1].seconds / it[0].seconds):.2f}"
@@ -134,15 +136,17 @@ def main():
     parser.add_argument("--seconds", type=int, default=1, help="how many seconds keeps by several threads are apart (1 if not said)")
     parser.add_argument("--workers", type=int, nargs="+", default=[2, 4], help="the threads that are compared with one (2 4)")
     parser.add_argument("--size", type=float, default=1, help="takes each number of a net times this (1 if not said)")
+    parser.add_argument("--least", action="store_true", help="tells the least processor seconds of the turns, and of several threads nothing: for a machine that isn't idle")
     parser.add_argument("--only", default="", metavar="WORD", help="takes only rows that have this word")
     parser.add_argument("--folder", default=".", help="keeps the files in a new folder in this one (. if not said)")
     options = parser.parse_args()
     options.program = [os.path.abspath(it) for it in options.program]
     with tempfile.TemporaryDirectory(dir=options.folder, prefix="kept-") as folder:
-        kept = Kept(folder)
+        kept = Kept(folder, options.least)
         of_keeps(options, kept)
-        print()
-        of_threads(options, kept)
+        if not options.least:
+            print()
+            of_threads(options, kept)
 
 
 if __name__ == "__main__":
