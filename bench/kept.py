@@ -17,7 +17,7 @@ from systems import ADD, BINARY, COMMUTE, EATS, FIBONACCI, TREES, full, numbers,
 
 GROWS = "{A(B(x),S(l))><B(A(x,l))} <r|A(x,r)=B(x)>"
 
-# One that has no bound makes fewer interactions than so many.
+# One that has no bound makes fewer interactions than so many, and has fewer nodes.
 NO_BOUND = 2**60
 
 
@@ -37,7 +37,7 @@ class Kept:
 
     def run(self, program, *words):
         """A run by `reduce` that ends well, or as not done."""
-        command = [str(it) for it in (program, "reduce", *words, "--quiet-answer")]
+        command = [str(it) for it in (program, "reduce", *words, "--nodes", NO_BOUND, "--quiet-answer")]
         files = [(os.POSIX_SPAWN_OPEN, 0, self.text, os.O_RDONLY, 0)]
         files += [(os.POSIX_SPAWN_OPEN, i, it, os.O_WRONLY | os.O_CREAT | os.O_TRUNC, 0o600) for i, it in ((1, self.out), (2, self.err))]
         began = time.perf_counter()
@@ -115,25 +115,24 @@ def of_nets(size):
 
 def of_threads(options, kept):
     """How much faster several threads are than one, with keeps and without, by the first program."""
-    program, several = options.program[0], [it for it in options.workers if it > 1]
-    head("what is reduced", "seconds by 1 thread", f"with `--keep --seconds {options.seconds}`", *(it for count in several for it in (f"faster by {count}", "with `--keep`", "ratio")))
+    program = options.program[0]
+    head("what is reduced", "threads", "seconds without keeps", f"with `--keep --seconds {options.seconds}`", "faster without keeps", "with `--keep`", "ratio")
     for what, text in of_nets(options.size):
         if options.only not in what:
             continue
         Path(kept.text).write_text(text)
-        turns = [{it: kept.turn(program, options.seconds, NO_BOUND, ["--workers", it]) for it in (1, *several)} for _ in range(options.turns)]
-        cells = [f"{median(turns, lambda it: it[1][run].seconds):.2f}" for run in range(2)]
-        for count in several:
+        turns = [{it: kept.turn(program, options.seconds, NO_BOUND, ["--workers", it])[:2] for it in (1, *options.workers)} for _ in range(options.turns)]
+        for count in (1, *options.workers):
+            seconds = [f"{median(turns, lambda it: it[count][run].seconds):.2f}" for run in range(2)]
             gains = [[it[1][run].seconds / it[count][run].seconds for run in range(2)] for it in turns]
-            cells += [f"{median(gains, lambda it: it[run]):.2f}" for run in range(2)] + [f"{median(gains, lambda it: it[1] / it[0]):.2f}"]
-        row(what, *cells)
+            row(what, count, *seconds, *(f"{median(gains, lambda it: it[run]):.2f}" for run in range(2)), f"{median(gains, lambda it: it[1] / it[0]):.2f}")
 
 
 def main():
     parser = argparse.ArgumentParser(prog="bench/kept.py", description=__doc__)
     parser.add_argument("program", nargs="+", help="the paths of programs")
     parser.add_argument("--turns", type=int, default=3, help="the median is of so many (3 if not said)")
-    parser.add_argument("--seconds", type=int, default=1, help="how many seconds keeps by several threads are apart (1 if not said)")
+    parser.add_argument("--seconds", type=int, default=5, help="how many seconds keeps by several threads are apart (5 if not said)")
     parser.add_argument("--workers", type=int, nargs="+", default=[2, 4], help="the threads that are compared with one (2 4)")
     parser.add_argument("--size", type=float, default=1, help="takes each number of a net times this (1 if not said)")
     parser.add_argument("--least", action="store_true", help="tells the least processor seconds of the turns, and of several threads nothing: for a machine that isn't idle")

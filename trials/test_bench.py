@@ -87,7 +87,7 @@ class Bench(Trial):
         self.equals(" ".join(command), "status and standard error", (0, ""), (ran.returncode, ran.stderr))
         found = [[it.strip() for it in line.strip("|").split("|")] for line in ran.stdout.splitlines() if re.match(r"\| \w", line)]
         self.equals("make bench-kept", "the programs of the first table", ["1", "2"] * 5, [it[0] for it in found[1:11]])
-        self.equals("make bench-kept", "how many nets there are by several threads", 4, len(found[12:]))
+        self.equals("make bench-kept", "the threads of the second table", ["1", "2", "4"] * 4, [it[1] for it in found[12:]])
         self.equals("make bench-kept", "whether each cell has a figure", [], [it for it in found[1:11] + found[12:] for cell in it[2:] if not re.fullmatch(r"[\d,.]+", cell)])
         self.equals("make bench-kept", "the folders that it has left", [], [it.name for it in self.room.glob("kept-*")])
 
