@@ -15,7 +15,7 @@ pub(crate) struct Reader<'r, 't> {
 }
 
 /// What closes an open mark of a term.
-#[derive(Clone, Copy, Debug, PartialEq, Eq)]
+#[derive(Clone, Copy)]
 enum Open {
     Arguments,
 }

@@ -5,7 +5,7 @@ use ic_text::is_blank;
 use std::alloc::{AllocError, Global};
 
 /// A rule, or what stands outside of rules.
-#[derive(Clone, Copy, Debug, PartialEq, Eq)]
+#[derive(Clone, Copy)]
 pub(crate) struct Segment {
     pub(crate) from: usize,
     /// Where it ends: `{`, `;` or `}` stands there, or the text is over.

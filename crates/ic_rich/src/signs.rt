@@ -6,7 +6,7 @@ use crate::tokens::{Kind, Token, tokens_of};
 use std::alloc::Global;
 
 /// What is declared.
-#[derive(Clone, Copy, Debug, PartialEq, Eq)]
+#[derive(Clone, Copy)]
 enum Sort {
     Number,
     List,

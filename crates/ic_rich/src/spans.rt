@@ -1,7 +1,7 @@
 //! Parts of a list of tokens.
 
 /// The tokens from one place up to another one.
-#[derive(Clone, Copy, Debug, PartialEq, Eq)]
+#[derive(Clone, Copy)]
 pub(crate) struct Span {
     pub(crate) from: usize,
     pub(crate) to: usize,
@@ -19,7 +19,7 @@ impl Span {
 }
 
 /// Two terms with `~` or `=` between them.
-#[derive(Clone, Copy, Debug, PartialEq, Eq)]
+#[derive(Clone, Copy)]
 pub(crate) struct Equation {
     pub(crate) left: Span,
     pub(crate) right: Span,

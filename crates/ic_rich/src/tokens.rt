@@ -4,7 +4,7 @@ use ic_text::{is_blank, is_word_byte};
 use std::alloc::{AllocError, Global};
 
 /// What a token is.
-#[derive(Clone, Copy, Debug, PartialEq, Eq)]
+#[derive(Clone, Copy, PartialEq, Eq)]
 pub(crate) enum Kind {
     /// A small letter, and then letters, digits and `_`.
     Name,

@@ -39,7 +39,7 @@ pub(crate) struct Source {
 }
 
 /// A place of a text.
-#[derive(Clone, Copy, Debug, PartialEq, Eq)]
+#[derive(Clone, Copy)]
 pub(crate) struct Place {
     pub(crate) source: usize,
     pub(crate) at: usize,
@@ -60,7 +60,7 @@ pub(crate) struct Sources {
 }
 
 /// Why texts aren't joined.
-#[derive(Clone, Copy, Debug, PartialEq, Eq)]
+#[derive(Clone, Copy)]
 pub(crate) enum UseFault {
     /// It is refused, at this place.
     Refused(Reason, Place),

@@ -7,14 +7,14 @@ use std::alloc::{AllocError, Global};
 use std::collections::BTreeMap;
 
 /// What stands across from a name that is a side of an equation.
-#[derive(Clone, Copy, Debug, PartialEq, Eq)]
+#[derive(Clone, Copy)]
 struct Across {
     equation: usize,
     other: Span,
 }
 
 /// What a wire leads to from one of its ends.
-#[derive(Clone, Copy, Debug, PartialEq, Eq)]
+#[derive(Clone, Copy)]
 pub(crate) enum End {
     /// A name within a term, or of the left side.
     Name(usize),
