@@ -214,7 +214,7 @@ def spoilt_rule(draw, rules):
             sides = [agent(it[1], (name(f"{mark}{k}_3") for k in range(len(it[2])))) for it, mark in ((left, "x"), (right, "y"))]
             rule = (*sides, [(name(it), agent("Era")) for side in sides for it in names_in(side)])
             beside = first
-        return rule, 0, "some agents are as the patterns of two rules say", beside
+        return rule, 0, "some agents fit two rules", beside
     if several and draw.random() < 0.5:
         left, right, equations = draw.choice(several)
         rule = agent(left[1], [*left[2], name("q_more")]), right, [*equations, (name("q_more"), agent("Era"))]

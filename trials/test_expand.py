@@ -8,7 +8,7 @@ from program import IN_MEMORY, SEED, TOP, Trial, run
 
 MOST = 16_777_216
 SENTENCES = {
-    "text": "a text begins with { or <, since rules stand in braces, and a comment with #; lines for serve aren't expanded",
+    "text": "a text begins with { or <: rules stand in braces, then a configuration as <r | Add(r,1) ~ 2>, and a comment begins with #; lines for serve aren't expanded",
     "word": "copy and erase need a symbol: A to Z or 0 to 9, and then letters and digits",
     "copier": "copy needs a symbol with two arguments, and this one has COUNT where it stands first",
     "eraser": "erase needs a symbol without arguments, and this one has COUNT where it stands first",
@@ -409,15 +409,9 @@ class Bounds(Trial):
     rooms = IN_MEMORY
     seconds = 30
 
-    def test_a_text_of_16777217_bytes_is_too_long_and_one_of_16777216_is_not(self):
-        for size in (MOST, MOST + 1):
-            text = b"<a,a|>#" + b" " * (size - 7)
-            if size == MOST:
-                self.runs("expand", given=text, out=b"<a,a|>")
-            else:
-                ran = self.refuses("expand", given=text, line="bad limit", status=1)
-                lines = ran.after.decode().splitlines()
-                self.equals(ran.command, "place and sentence", ("line 1, column 16777217", "a text has at most 16777216 bytes"), (lines[0], lines[-1]))
+    def test_a_text_is_as_long_as_is_wanted(self):
+        self.runs("expand", given=b"<a,a|>#" + b" " * (2 * MOST), out=b"<a,a|>")
+        self.runs("reduce", "--rich", given=b"{}<a,a|>#" + b" " * (2 * MOST), out=b"<a,a|>\n")
 
     def test_65_symbols_are_written_for_reduce_alone(self):
         symbols = [f"A{k}" for k in range(63)]

@@ -6,6 +6,9 @@ from program import IN_MEMORY, TOP, Trial, run
 
 NUMBER = "numbers inside agents are Inpla's own; here a number is a net: number S Z, and rules of S and Z"
 COMMENT = "a comment begins with # here"
+COLON = "x:xs is Inpla's own; here it is [x|xs], after list Cons Nil among the rules"
+USE = 'use stands among the rules, within their braces: { use "lib/nat.rich"; .. }'
+NET = "a configuration is looked for here: what is shown, and then the equations, as in <r | Add(r,1) ~ 2>"
 NAMING = "<< and >> are Inpla's own; here r << Add(x,y) is written as the equation Add(r,x) ~ y"
 
 # A text, where its fault is, and what is told of it.
@@ -17,6 +20,12 @@ FOREIGN = {
     "a long comment": ("/* nothing */ {A(r) >< B => r~C} <|>", (1, 1), COMMENT),
     "a name for an agent": ("{A(r,x) >< B => r~x}\n<r|r << A(C)>", (2, 6), NAMING),
     "another one": ("{A(r,x) >< B => r~x}\n<r|A(C) >> r~x>", (2, 9), NAMING),
+    "a list in a pattern": ("{list C N; A(r) >< x:xs => r~C(x,xs)} <|>", (1, 21), COLON),
+    "a list in a net": ("{list C N; A(r) >< [x|xs] => r~C(x,xs)}\n<r|A(r)~T:[]>", (2, 10), COLON),
+    "a use before the rules": ("\n use \"lib/nat.rich\";\n{A(r) >< B => r~C} <|>", (2, 2), USE),
+    "a use after the rules": ("{A(r) >< B => r~C}\nuse \"a.rich\";\n<|>", (2, 1), USE),
+    "nets after the rules": ("{A(r) >< B => r~C}\n\n A(r) ~ B;\nr;", (3, 2), NET),
+    "a name after the rules": ("{A(r) >< B => r~C} r", (1, 20), NET),
 }
 
 

@@ -59,10 +59,10 @@ WORKED = {
 
 # A text, the place of its fault, and what is told of it.
 REFUSED = {
-    "the same twice": ("{F(r) >< S(S(n)) => r~n;\n F(q) >< S(S(m)) => q~m} <|>", (2, 2), "some agents are as the patterns of two rules say, of this one and of that in line 1"),
-    "a rule for all": ("{F(r) >< S(S(n)) => r~n;\n F(r) >< S(n) => r~n} <|>", (2, 2), "some agents are as the patterns of two rules say, of this one and of that in line 1"),
-    "a rule without an arrow": ("{F(x)><S(x);\n F(r) >< S(S(n)) => r~n} <|>", (1, 2), "some agents are as the patterns of two rules say, of this one and of that in line 2"),
-    "deeper than the other": ("{F(r) >< S(S(S(n))) => r~n; F(r) >< S(Z) => r~Z;\n F(r) >< S(S(n)) => r~n} <|>", (2, 2), "some agents are as the patterns of two rules say, of this one and of that in line 1"),
+    "the same twice": ("{F(r) >< S(S(n)) => r~n;\n F(q) >< S(S(m)) => q~m} <|>", (2, 2), "some agents fit two rules, this one and that in line 1"),
+    "a rule for all": ("{F(r) >< S(S(n)) => r~n;\n F(r) >< S(n) => r~n} <|>", (2, 2), "some agents fit two rules, this one and that in line 1"),
+    "a rule without an arrow": ("{F(x)><S(x);\n F(r) >< S(S(n)) => r~n} <|>", (1, 2), "some agents fit two rules, this one and that in line 2"),
+    "deeper than the other": ("{F(r) >< S(S(S(n))) => r~n; F(r) >< S(Z) => r~Z;\n F(r) >< S(S(n)) => r~n} <|>", (2, 2), "some agents fit two rules, this one and that in line 1"),
     "no order": ("{F(A,B,x) >< G => x~C; F(x,A,B) >< G => x~C;\n F(B,x,A) >< G => x~C} <|>", (1, 24), "no argument is a pattern in each rule of these symbols, in this one and in that in line 1"),
     "with itself": ("{F(x) >< F(S(y)) => x~y} <|>", (1, 10), "where a symbol meets itself the arguments left of => are names"),
     "other arguments": ("{F(r) >< S(S(n)) => r~n;\n F(r,x) >< S(Z) => r~x} <|>", (2, 2), "a symbol has one number of arguments, and an earlier pattern has another one"),
@@ -141,7 +141,7 @@ class Worked(Trial):
         self.runs("reduce", path, out=["<3,3|>"])
         path.write_text('{\nuse "half.rich"; Half(r)><S(n)=>r~n} <a|Half(a)=7>')
         ran = run("reduce", path)
-        told = (1, f"{path}, line 2, column 18", f"some agents are as the patterns of two rules say, of this one and of that in {self.room}/half.rich, line 1")
+        told = (1, f"{path}, line 2, column 18", f"some agents fit two rules, this one and that in {self.room}/half.rich, line 1")
         lines = (ran.err + ran.after).decode().splitlines()
         self.equals(ran.command, "how it ends", told, (ran.status, lines[1], lines[-1]))
 

@@ -55,8 +55,8 @@ WORKED = {
 
 # A text, the place of its fault, and what is told of it.
 REFUSED = {
-    "two agents": ("{A(x) >< B => x~C, D~E} <|>", (1, 20), "right of => no two agents meet: what they come to is to be written, or a rule more"),
-    "two agents by names": ("{A(x) >< B => x~C, u~E, F~u} <|>", (1, 20), "right of => no two agents meet: what they come to is to be written, or a rule more"),
+    "two agents": ("{A(x) >< B => x~C, D~E} <|>", (1, 20), "right of => no two agents meet: write what these two come to, or one agent more, which has rules of its own"),
+    "two agents by names": ("{A(x) >< B => x~C, u~E, F~u} <|>", (1, 20), "right of => no two agents meet: write what these two come to, or one agent more, which has rules of its own"),
     "a circle": ("{A >< B => u~u} <|>", (1, 12), "right of => this equation leads round to itself, and to no name left of it"),
     "a circle of two": ("{A >< B =>\n u~v, v~u} <|>", (2, 2), "right of => this equation leads round to itself, and to no name left of it"),
     "a circle by an agent": ("{A >< B => u~S(u)} <|>", (1, 12), "right of => this equation leads round to itself, and to no name left of it"),
@@ -66,8 +66,8 @@ REFUSED = {
     "once": ("{A(x) >< B => x~C(more_1)} <|>", (1, 19), "a name that isn't left of => stands right of it twice: more_1 stands once"),
     "thrice": ("{A(x) >< B => x~C(y,y,y)} <|>", (1, 23), "a name that isn't left of => stands right of it twice: y stands three times"),
     "no argument": ("{A(~x) >< B => x~C} <|>", (1, 4), "left of => an argument is a name, or a pattern as S(x): one is looked for here"),
-    "no symbol": ("{a(x) >< B => x~C} <|>", (1, 2), "a rule by => begins as A(x,y) >< B(z): a symbol is looked for here"),
-    "no second symbol": ("{A(x) >< => x~C} <|>", (1, 10), "a rule by => begins as A(x,y) >< B(z): a symbol is looked for here"),
+    "no symbol": ("{a(x) >< B => x~C} <|>", (1, 2), "a rule by => begins as A(x,y) >< B(z): a symbol is looked for here, which begins with A to Z or 0 to 9"),
+    "no second symbol": ("{A(x) >< => x~C} <|>", (1, 10), "a rule by => begins as A(x,y) >< B(z): a symbol is looked for here, which begins with A to Z or 0 to 9"),
     "no meeting": ("{A(x) => x~C} <|>", (1, 7), ">< is looked for here, between the two sides of a rule"),
     "no sign": ("{A(x) >< B => x C} <|>", (1, 17), "~ or = is looked for here, between two terms"),
     "no term": ("{A(x) >< B => x~} <|>", (1, 17), "a term is looked for here: a name, or a symbol, which may have arguments"),
@@ -107,6 +107,27 @@ FORM_FAULTS = [
     ("no list", "T(A]", 3),
     ("a power", "S^x(A)", 2),
     ("a power alone", "S^7", 2),
+    ("a list of Inpla", "T:A", 1),
+    ("a sum of Inpla", "T(3+A)", 3),
+]
+
+# What may stand before a configuration, and the same.
+LET_FAULTS = [
+    ("a let without a name", " let Two = A ", 5),
+    ("a let without =", " let q_let A ", 11),
+    ("a let with a name", " let q_let = A(q_2) ", 15),
+    ("a let of two terms", " let q_let = A B ", 15),
+    ("two lets of a name", " let q_let = A; let q_let = B ", 20),
+]
+
+# What may stand after the rules, and the same.
+NET_FAULT = ("a net of Inpla", " q_1 ~ A; q_1; ", 1)
+
+# What may stand among the rules, and the same.
+USE_FAULTS = [
+    ("a file that isn't there", 'use "none.rich";', 0),
+    ("a path without quotes", "use none;", 0),
+    ("a second declaration", "list A B;list A B;", 9),
 ]
 
 # What is told of each fault that is drawn.
@@ -125,6 +146,17 @@ TELLS = {
     "thrice right": "stands three times",
     "meeting": "no two agents meet",
     "circle": "leads round to itself",
+    "a list of Inpla": "here it is [x|xs]",
+    "a sum of Inpla": "numbers inside agents are Inpla's own",
+    "a let without a name": "a name is looked for here",
+    "a let without =": "= is looked for here",
+    "a let with a name": "q_2 is none",
+    "a let of two terms": "after the term of a let another let",
+    "two lets of a name": "names q_let already",
+    "a net of Inpla": "a configuration is looked for here",
+    "a file that isn't there": "the file that is named here can't be read",
+    "a path without quotes": "a path in quotes is looked for here",
+    "a second declaration": "says what these stand for",
 }
 
 
@@ -237,8 +269,12 @@ class Drawn(Trial):
         if draw.random() < 0.4:
             _, text = rich.drawn_shorthands(draw, SHORT_SYMBOLS, WORDS, draw.randint(0, 3))
             shown = re.sub(r"#[^\n]*", lambda it: " " * len(it[0]), text)
-            kind, spoilt, shift = draw.choice(FORM_FAULTS)
+            if draw.random() < 0.4:
+                first, last, net = shown.index("{") + 1, shown.rindex("}") + 1, shown.rindex("<")
+                at, (kind, spoilt, shift) = draw.choice([(first, draw.choice(USE_FAULTS)), (last, NET_FAULT), (net, draw.choice(LET_FAULTS))])
+                return text[:at] + spoilt + text[at:], kind, place_in(text[:at] + spoilt, at + shift)
             at = shown.rindex("<") + 1
+            kind, spoilt, shift = draw.choice(FORM_FAULTS)
             # Some have a configuration before that one, which is sound.
             before = draw.choice(["", "", "<|>", "<q_1,\n x|q_1=Z> "])
             text, at = text[: at - 1] + before + text[at - 1 :], at + len(before)
@@ -316,12 +352,13 @@ class Bounds(Trial):
         doubled = "let a0_ = A(B,B);" + "".join(f"let a{k + 1}_ = A(a{k}_,a{k}_);" for k in range(60))
         for text, column in (
             ("{number S Z}<|A=99999999999999999999999>", 17),
-            ("{} <|A^9000000(x)=B>", 6),
+            ("{} <|A^9000000000(x)=B>", 6),
             ("{}" + doubled + "<|>", None),
         ):
             ran = run("expand", given=text)
             self.equals(ran.command[:60], "how it ends", (1, b"", b"icserve: bad limit\n"), (ran.status, ran.out, ran.err))
             lines = ran.after.decode().splitlines()
-            self.equals(ran.command[:60], "what is told", "what this stands for is too long: a text has at most 16777216 bytes", lines[-1])
+            most = "what this stands for is too long: a text has at most 8589934592 bytes" if column else "a term that let names has at most 16777216 bytes"
+            self.equals(ran.command[:60], "what is told", most, lines[-1])
             if column:
                 self.equals(ran.command[:60], "its place", f"line 1, column {column}", lines[0])

@@ -1,9 +1,12 @@
 """`use "FILE"` in rich texts: which rules come, once each, from which folder, and what is refused, at which places."""
 
+import itertools
 import random
+import resource
 import shutil
 
 import rich
+from collisions import symbols
 from program import IN_MEMORY, PROGRAM, SEED, TOP, Trial, run
 from test_rich import SHORT_SYMBOLS, WORDS
 
@@ -137,6 +140,20 @@ class Use(Trial):
         twice = self.file("twice.rich", f'{{use "lib/nat.rich"; use "{self.room}/there/share/icserve/lib/nat.rich"}} <r|Add(1,r)=1>')
         ran = run("reduce", twice, program=program)
         self.equals(ran.command, "a file of the library comes once", (0, b"<2|>\n"), (ran.status, ran.out))
+
+    def test_many_rules_of_files_take_seconds(self):
+        """Those of 16 MB, and of symbols that have one hash; the second file brings the same lines, and no further rule."""
+        chosen = symbols(8_192)
+        for pairs in ([(f"A{k}", f"B{k % 10_000}") for k in range(500_000)], list(itertools.combinations(chosen[:700], 2))):
+            rules = ";".join(f"{one}(x,r)><{other} => x~r" for one, other in pairs)
+            self.file("rules.rich", "{" + rules + "; number S Z} <|>")
+            self.file("more.rich", "{" + "number S Z;" * 20_000 + 'use "rules.rich"} <|>')
+            path = self.file("main.rich", '{use "rules.rich"; use "more.rich"} <|>')
+            before = resource.getrusage(resource.RUSAGE_CHILDREN).ru_utime
+            ran = run("expand", path)
+            took = resource.getrusage(resource.RUSAGE_CHILDREN).ru_utime - before
+            self.equals(ran.command, f"within 10 seconds of processor time: {took:.2f}", True, took < 10)
+            self.equals(ran.command, "how it ends", (0, b""), (ran.status, ran.err))
 
     def test_use_is_a_name_elsewhere(self):
         self.runs("expand", given="{A><B} <use|use=use1>", out="{A><B} <a|a=b>")

@@ -91,7 +91,7 @@ A text                                served          wide
 
 A name is a node, and an agent is a node and those of its arguments. Texts of reduce and trace are
 wide, or served with --limits served. Those of jobs and of other commands are served, and their
-nets have at most 8192 nodes after each round. What expand reads has at most 16777216 bytes.
+nets have at most 8192 nodes after each round. A rich text has at most 8589934592 bytes.
 
 A disk of jobs
   jobs                                32

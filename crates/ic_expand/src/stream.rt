@@ -19,8 +19,8 @@ const CHUNK: usize = 8_192;
 
 /// Writes the text of the calculus for which the text stands that the reader gives.
 ///
-/// Nothing is written before the text is read and expanded. A text of more than 16,777,216 bytes is `TextFault::Limit`,
-/// and at most 16,777,217 bytes are read; any other refusal is `TextFault::Syntax`. Where the text is refused, the lines
+/// Nothing is written before the text is read and expanded. A text of more than 2^33 bytes is `TextFault::Limit`, and no
+/// more than one byte after these is read; any other refusal is `TextFault::Syntax`. Where the text is refused, the lines
 /// that tell of it are appended to `told`.
 pub fn expand_stream<R: Read, W: Write, F: Files>(
     alloc: Global,

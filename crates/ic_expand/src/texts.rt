@@ -12,8 +12,8 @@ use crate::fault::{ExpandFault, Reason};
 use crate::forms::has_form;
 use crate::writing::expand;
 use ic_rich::{
-    Files, Found, JoinFault, JoinRefusal, Joined, Origin, Remarks, RichFault, Unfolded, Wording,
-    join, unfold,
+    Files, Found, JoinFault, JoinRefusal, Joined, Origin, Places, Remarks, RichFault, Unfolded,
+    Wording, join, unfold,
 };
 use ic_text::TextFault;
 use std::alloc::{AllocError, AllocFailed, Global};
@@ -166,7 +166,7 @@ fn read_joined(alloc: Global, joined: &Joined) -> Result<Expanded, Unexpanded>
     ensures text { IfOk result (λ out. (plain : List ℕ) × (expanded plain ≡ Ok out.text.items)) }
     ensures refused { IfErr result IsOfForms }
 {
-    match unfold(alloc, joined.text()) {
+    match unfold(alloc, joined.text(), Places::Left) {
         Ok(written) => unfolded_text(alloc, joined, written),
         Err(RichFault::Memory) => Err(Unexpanded::Memory),
         Err(RichFault::Refused(reason, at)) => {
@@ -200,9 +200,19 @@ fn unfolded_text(alloc: Global, joined: &Joined, written: Unfolded) -> Result<Ex
         Err(ExpandFault::Memory) => Err(Unexpanded::Memory),
         Err(ExpandFault::Refused(reason, at)) => {
             let words = reason_sentence(alloc, reason)?;
-            let refused = joined.refused(alloc, written.place_of(at), &words)?;
+            let place = place_in(alloc, joined, at)?;
+            let refused = joined.refused(alloc, place, &words)?;
             Err(of_refusal(refused, text_fault(reason)))
         }
+    }
+}
+
+/// The place in a text with the rules of others from which comes what stands at one of what that is unfolded to.
+fn place_in(alloc: Global, joined: &Joined, at: usize) -> Result<usize, AllocError> {
+    match unfold(alloc, joined.text(), Places::Noted) {
+        Ok(written) => Ok(written.place_of(at)),
+        Err(RichFault::Memory) => Err(AllocError),
+        Err(RichFault::Refused(_, _)) => Ok(at),
     }
 }
 
@@ -268,11 +278,11 @@ const FIRST: &[u8] = b" where it stands first";
 /// What is amiss at the place of a refusal.
 fn reason_sentence(alloc: Global, reason: Reason) -> Result<Vec<u8>, AllocError> {
     match reason {
-        Reason::TextBytes => Vec::from_slice(alloc, b"a text has at most 16777216 bytes"),
+        Reason::TextBytes => Vec::from_slice(alloc, b"a text has at most 8589934592 bytes"),
         Reason::NoText => {
             Vec::from_slice(
                 alloc,
-                b"a text begins with { or <, since rules stand in braces, and a comment with #; lines for serve aren't expanded",
+                b"a text begins with { or <: rules stand in braces, then a configuration as <r | Add(r,1) ~ 2>, and a comment begins with #; lines for serve aren't expanded",
             )
         }
         Reason::NotSymbol => {

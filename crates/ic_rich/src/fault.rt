@@ -4,7 +4,7 @@ use crate::written::Written;
 use std::alloc::{AllocError, AllocFailed};
 
 /// What is amiss at a place.
-#[derive(Clone, Copy, Debug, PartialEq, Eq)]
+#[derive(Clone, Copy)]
 pub enum Reason {
     /// A rule by an arrow, or a term, isn't written so.
     Rule(RuleReason),
@@ -25,7 +25,7 @@ pub enum Reason {
 }
 
 /// What is amiss in the form of a rule by an arrow, or of a term.
-#[derive(Clone, Copy, Debug, PartialEq, Eq)]
+#[derive(Clone, Copy)]
 pub enum RuleReason {
     /// No side of a rule by an arrow stands here: a symbol, maybe with names in parentheses.
     NoSide,
@@ -46,7 +46,7 @@ pub enum RuleReason {
 }
 
 /// What is amiss in the names and equations of a rule by an arrow.
-#[derive(Clone, Copy, Debug, PartialEq, Eq)]
+#[derive(Clone, Copy)]
 pub enum WireReason {
     /// A name stands twice on the left side.
     TwiceLeft,
@@ -65,7 +65,7 @@ pub enum WireReason {
 }
 
 /// What is amiss in rules with patterns.
-#[derive(Clone, Copy, Debug, PartialEq, Eq)]
+#[derive(Clone, Copy)]
 pub enum NestReason {
     /// The patterns of a rule overlap those of another one, which begins at this place.
     Overlap(usize),
@@ -80,7 +80,7 @@ pub enum NestReason {
 }
 
 /// What is amiss in a number, a list, a pair, or their declaration.
-#[derive(Clone, Copy, Debug, PartialEq, Eq)]
+#[derive(Clone, Copy)]
 pub enum ShorthandReason {
     /// A declaration needs a symbol.
     NoSymbol,
@@ -103,7 +103,7 @@ pub enum ShorthandReason {
 }
 
 /// What is amiss in a `let`.
-#[derive(Clone, Copy, Debug, PartialEq, Eq)]
+#[derive(Clone, Copy)]
 pub enum LetReason {
     /// After `let` a name is looked for.
     NoName,
@@ -115,10 +115,12 @@ pub enum LetReason {
     NotClosed,
     /// An earlier `let` has the name.
     Again,
+    /// Its term is too long.
+    Long,
 }
 
 /// What is amiss in a `use`.
-#[derive(Clone, Copy, Debug, PartialEq, Eq)]
+#[derive(Clone, Copy)]
 pub enum UseReason {
     /// After `use` a path in quotes is looked for.
     NoPath,
@@ -131,7 +133,7 @@ pub enum UseReason {
 }
 
 /// What is Inpla's own.
-#[derive(Clone, Copy, Debug, PartialEq, Eq)]
+#[derive(Clone, Copy)]
 pub enum ForeignReason {
     /// A number inside an agent, or what is reckoned with it.
     Number,
@@ -139,6 +141,12 @@ pub enum ForeignReason {
     Comment,
     /// `<<` or `>>`.
     Naming,
+    /// `x:xs`.
+    Colon,
+    /// `use` outside of the braces of rules.
+    Use,
+    /// A net after the rules that is no configuration.
+    Net,
 }
 
 impl Reason {
@@ -165,12 +173,12 @@ impl Reason {
 
     /// Whether a limit is passed.
     pub fn is_limit(self) -> bool {
-        matches!(self, Reason::TooLong)
+        matches!(self, Reason::TooLong | Reason::Let(LetReason::Long))
     }
 }
 
 /// Why a text isn't unfolded.
-#[derive(Clone, Copy, Debug, PartialEq, Eq)]
+#[derive(Clone, Copy)]
 pub enum RichFault {
     /// It is refused, at this place.
     Refused(Reason, usize),

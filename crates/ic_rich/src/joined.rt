@@ -7,12 +7,11 @@ use crate::segments::{Segment, after_blanks, after_meeting, leading_word, part_o
 use crate::sentences::sentence;
 use crate::signs::is_line;
 use crate::tokens::tokens_of;
-use crate::unfolding::unfold;
+use crate::unfolding::{Places, unfold};
 use crate::uses::{Files, Place, Source, Sources, UseFault, use_at};
-use std::alloc::{AllocError, AllocFailed, Global};
-
-/// How many bytes there are at most.
-const MAX_JOINED: usize = 16_777_216;
+use ic_text::MAX_WIDE_TEXT;
+use std::alloc::{AllocError, Global};
+use std::collections::BTreeMap;
 
 /// From this place on what is written comes from that place of a text on.
 #[derive(Clone, Copy)]
@@ -51,35 +50,8 @@ pub enum JoinFault {
     Memory,
 }
 
-impl From<AllocError> for JoinFault {
-    fn from(_error: AllocError) -> JoinFault {
-        JoinFault::Memory
-    }
-}
-
-impl<T: Drop> From<AllocFailed<T>> for JoinFault {
-    fn from(_failed: AllocFailed<T>) -> JoinFault {
-        JoinFault::Memory
-    }
-}
-
-/// What a rule or a line of a text is told by: the two symbols of a rule, or its sides where these have patterns, or all words of
-/// a line such as `copy Dup`.
-#[derive(Drop)]
-struct Head {
-    one: Vec<u8>,
-    other: Vec<u8>,
-    is_line: bool,
-    place: Place,
-}
-
-impl Head {
-    fn is_as(&self, head: &Head) -> bool {
-        let same = self.one == head.one && self.other == head.other;
-        let turned = self.one == head.other && self.other == head.one;
-        self.is_line == head.is_line && (same || turned)
-    }
-}
+/// What rules and lines are told by, each with the place at which it stands first.
+type Heads = BTreeMap<Vec<u8>, Place>;
 
 /// The words of a line with one blank between.
 fn words_of(alloc: Global, part: &[u8]) -> Result<Vec<u8>, AllocError> {
@@ -119,27 +91,30 @@ fn sides_of(alloc: Global, part: &[u8]) -> Result<(Vec<u8>, Vec<u8>), AllocError
     Ok((one.to_vec(alloc)?, other.to_vec(alloc)?))
 }
 
-/// What a segment of a text is told by.
-fn head_of(
-    alloc: Global,
-    text: &[u8],
-    segment: Segment,
-    source: usize,
-) -> Result<Head, AllocError> {
+/// What a segment of a text is told by: all words of a line such as `copy Dup`, or the two symbols of a rule, or its sides where
+/// these have patterns, in an order of their own.
+fn head_of(alloc: Global, text: &[u8], segment: Segment) -> Result<Vec<u8>, AllocError> {
     let part = segment.part_of(text);
-    let is_line = is_line(text, segment);
-    let at = segment.to.saturating_sub(after_blanks(part).len());
-    let (one, other) = if is_line {
-        (words_of(alloc, part)?, Vec::new(alloc))
+    if is_line(text, segment) {
+        return words_of(alloc, part);
+    }
+    let (one, other) = sides_of(alloc, part)?;
+    let (mut head, last) = if one <= other {
+        (one, other)
     } else {
-        sides_of(alloc, part)?
+        (other, one)
     };
-    Ok(Head {
-        one,
-        other,
-        is_line,
-        place: Place { source, at },
-    })
+    // A rule differs from a line by this mark, which stands in no side.
+    head.push(b'\n')?;
+    head.extend_from_slice(&last)?;
+    Ok(head)
+}
+
+/// The place of the first word of a segment.
+fn place_in(source: usize, text: &[u8], segment: Segment) -> Place {
+    let rest = after_blanks(segment.part_of(text));
+    let at = segment.to.saturating_sub(rest.len());
+    Place { source, at }
 }
 
 /// The line of a place in a text, from 1.
@@ -218,7 +193,7 @@ impl Woven {
     /// Writes bytes that stand at a place.
     fn put(&mut self, bytes: &[u8], from: Place) -> Result<(), UseFault> {
         let written = self.text.len();
-        if written.saturating_add(bytes.len()) > MAX_JOINED {
+        if written.saturating_add(bytes.len()) > MAX_WIDE_TEXT {
             return Err(UseFault::Refused(Reason::TooLong, from));
         }
         self.parts.push(Part { written, from })?;
@@ -291,7 +266,7 @@ impl Joined {
     /// The holes of its patterns, each with the place of the text that is read at which it is told, and the symbols of agents that
     /// wait. A text that is refused has none.
     pub(crate) fn patterns(&self, alloc: Global) -> Result<(Vec<Hole>, Vec<Vec<u8>>), AllocError> {
-        let unfolded = match unfold(alloc, self.text()) {
+        let unfolded = match unfold(alloc, self.text(), Places::Noted) {
             Ok(unfolded) => unfolded,
             Err(RichFault::Memory) => return Err(AllocError),
             Err(RichFault::Refused(_, _)) => return Ok((Vec::new(alloc), Vec::new(alloc))),
@@ -318,20 +293,6 @@ impl Joined {
     }
 }
 
-/// Whether a head isn't there yet. A rule that is there is refused.
-fn is_new(heads: &[Head], head: &Head) -> Result<bool, UseFault> {
-    for other in heads {
-        if other.is_as(head) {
-            return if head.is_line {
-                Ok(false)
-            } else {
-                Err(UseFault::Same(head.place, other.place))
-            };
-        }
-    }
-    Ok(true)
-}
-
 /// Whether a segment has a rule, or a line such as `copy Dup`.
 pub(crate) fn is_told(text: &[u8], segment: Segment) -> bool {
     let is_empty = after_blanks(segment.part_of(text)).is_empty();
@@ -339,14 +300,52 @@ pub(crate) fn is_told(text: &[u8], segment: Segment) -> bool {
 }
 
 /// What the rules of a text are told by.
-fn heads_of(alloc: Global, source: &Source) -> Result<Vec<Head>, AllocError> {
-    let mut heads = Vec::new(alloc);
+fn heads_of(alloc: Global, source: &Source) -> Result<Heads, AllocError> {
+    let mut heads = BTreeMap::new(alloc);
     for segment in &source.segments {
         if is_told(&source.text, *segment) {
-            heads.push(head_of(alloc, &source.text, *segment, 0)?)?;
+            add_head(alloc, &mut heads, source, 0, *segment)?;
         }
     }
     Ok(heads)
+}
+
+/// Notes what a segment is told by, unless that is there. It answers where that stands first, if so.
+fn add_head(
+    alloc: Global,
+    heads: &mut Heads,
+    source: &Source,
+    number: usize,
+    segment: Segment,
+) -> Result<Option<Place>, AllocError> {
+    let head = head_of(alloc, &source.text, segment)?;
+    let found = heads.get(head.as_slice()).copied();
+    if found.is_none() {
+        let place = place_in(number, &source.text, segment);
+        match heads.insert(head, place) {
+            Ok(_) => {}
+            Err(_) => return Err(AllocError),
+        }
+    }
+    Ok(found)
+}
+
+/// Whether a segment of a text isn't there yet. A rule that is there is refused.
+fn is_new(
+    alloc: Global,
+    heads: &mut Heads,
+    source: &Source,
+    number: usize,
+    segment: Segment,
+) -> Result<bool, UseFault> {
+    match add_head(alloc, heads, source, number, segment)? {
+        None => Ok(true),
+        Some(_) if is_line(&source.text, segment) => Ok(false),
+        Some(other) => {
+            let place = place_in(number, &source.text, segment);
+            Err(UseFault::Same(place, other))
+        }
+    }
 }
 
 /// Writes the rules of a text that aren't there yet.
@@ -354,20 +353,16 @@ fn weave_source(
     alloc: Global,
     source: &Source,
     number: usize,
-    heads: &mut Vec<Head>,
+    heads: &mut Heads,
     woven: &mut Woven,
 ) -> Result<(), UseFault> {
     for segment in &source.segments {
-        if is_told(&source.text, *segment) {
-            let head = head_of(alloc, &source.text, *segment, number)?;
-            if is_new(heads, &head)? {
-                let from = Place {
-                    source: number,
-                    at: segment.from,
-                };
-                woven.put_rule(alloc, segment.part_of(&source.text), from)?;
-                heads.push(head)?;
-            }
+        if is_told(&source.text, *segment) && is_new(alloc, heads, source, number, *segment)? {
+            let from = Place {
+                source: number,
+                at: segment.from,
+            };
+            woven.put_rule(alloc, segment.part_of(&source.text), from)?;
         }
     }
     Ok(())
@@ -378,7 +373,7 @@ fn weave_used(
     alloc: Global,
     sources: &[Source],
     root: usize,
-    heads: &mut Vec<Head>,
+    heads: &mut Heads,
     woven: &mut Woven,
 ) -> Result<(), UseFault> {
     for number in 1..sources.len() {

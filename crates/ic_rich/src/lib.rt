@@ -39,6 +39,6 @@ pub use joined::{JoinFault, JoinRefusal, Joined, join};
 pub use remarks::{Borrowed, Pair, Remark, Remarks};
 pub use retelling::Origin;
 pub use telling::{told_graph, told_line};
-pub use unfolding::{Unfolded, unfold};
+pub use unfolding::{Places, Unfolded, unfold};
 pub use uses::{Files, Found};
 pub use wording::Wording;

@@ -3,7 +3,7 @@
 use crate::joined::{JoinRefusal, Joined, line_of};
 use crate::segments::part_of;
 use crate::tokens::{first_word, joins};
-use crate::unfolding::{Unfolded, unfold};
+use crate::unfolding::{Places, Unfolded, unfold};
 use crate::whence::{Generic, Names, rule_start, whence_of};
 use std::alloc::{AllocError, Global};
 
@@ -211,7 +211,7 @@ impl Origin {
     ) -> Result<Option<JoinRefusal>, AllocError> {
         let unfolded = match self {
             Origin::Body(_) => None,
-            Origin::Formed(joined) => match unfold(alloc, joined.text()) {
+            Origin::Formed(joined) => match unfold(alloc, joined.text(), Places::Noted) {
                 Ok(unfolded) => Some(unfolded),
                 Err(_) => return Ok(None),
             },

@@ -41,7 +41,7 @@ fn words_of(reason: Reason) -> Words {
         Reason::Use(reason) => use_words(reason),
         Reason::Foreign(reason) => foreign_words(reason),
         Reason::TooLong => (
-            b"what this stands for is too long: a text has at most 16777216 bytes",
+            b"what this stands for is too long: a text has at most 8589934592 bytes",
             b"",
         ),
     }
@@ -51,7 +51,7 @@ fn words_of(reason: Reason) -> Words {
 fn rule_words(reason: RuleReason) -> Words {
     match reason {
         RuleReason::NoSide => (
-            b"a rule by => begins as A(x,y) >< B(z): a symbol is looked for here",
+            b"a rule by => begins as A(x,y) >< B(z): a symbol is looked for here, which begins with A to Z or 0 to 9",
             b"",
         ),
         RuleReason::NoName => (
@@ -97,7 +97,7 @@ fn wire_words(reason: WireReason) -> Words {
             b" stands three times",
         ),
         WireReason::Meeting => (
-            b"right of => no two agents meet: what they come to is to be written, or a rule more",
+            b"right of => no two agents meet: write what these two come to, or one agent more, which has rules of its own",
             b"",
         ),
         WireReason::Circle => (
@@ -110,10 +110,7 @@ fn wire_words(reason: WireReason) -> Words {
 /// What is said of rules with patterns.
 fn nest_words(reason: NestReason) -> Words {
     match reason {
-        NestReason::Overlap(_) => (
-            b"some agents are as the patterns of two rules say, of this one and of that in ",
-            b"",
-        ),
+        NestReason::Overlap(_) => (b"some agents fit two rules, this one and that in ", b""),
         NestReason::Unordered(_) => (
             b"no argument is a pattern in each rule of these symbols, in this one and in that in ",
             b"",
@@ -177,6 +174,7 @@ fn let_words(reason: LetReason) -> Words {
             b" is none",
         ),
         LetReason::Again => (b"an earlier let names ", b" already"),
+        LetReason::Long => (b"a term that let names has at most 16777216 bytes", b""),
     }
 }
 

@@ -9,8 +9,11 @@ use crate::written::Written;
 use ic_text::is_blank;
 use std::alloc::Global;
 
+/// How many bytes a term that `let` names has at most.
+const MAX_NAMED: usize = 16_777_216;
+
 /// What is open in a term.
-#[derive(Clone, Copy, Debug, PartialEq, Eq)]
+#[derive(Clone, Copy)]
 enum Open {
     /// What `(` opens after a word.
     Arguments,
@@ -27,7 +30,7 @@ enum Open {
 }
 
 /// What stands before the next token.
-#[derive(Clone, Copy, Debug, PartialEq, Eq)]
+#[derive(Clone, Copy, PartialEq, Eq)]
 enum Before {
     /// A word: `(` opens its arguments.
     Word,
@@ -87,7 +90,13 @@ fn split_word(text: &[u8]) -> (&[u8], &[u8]) {
 }
 
 impl<'t> Shorthands<'t> {
-    pub(crate) fn new(alloc: Global, text: &'t [u8], signs: Signs<'t>) -> Shorthands<'t> {
+    /// Nothing. It is noted, or not, whence what is written comes.
+    pub(crate) fn new(
+        alloc: Global,
+        text: &'t [u8],
+        signs: Signs<'t>,
+        notes: bool,
+    ) -> Shorthands<'t> {
         Shorthands {
             alloc,
             text,
@@ -103,7 +112,7 @@ impl<'t> Shorthands<'t> {
             open: Vec::new(alloc),
             before: Before::Other,
             has_begun: false,
-            written: Written::new(alloc),
+            written: Written::new(alloc, notes),
         }
     }
 
@@ -231,8 +240,10 @@ impl<'t> Shorthands<'t> {
         }
     }
 
-    /// Writes so many times this symbol, and the mark that opens its arguments.
+    /// Writes so many times this symbol, and the mark that opens its arguments, which is to be closed as often.
     fn put_openings(&mut self, symbol: &[u8], count: u64, at: usize) -> Result<(), RichFault> {
+        let each = (symbol.len() as u64).saturating_add(2);
+        self.written.refuse_beyond(count.saturating_mul(each), at)?;
         for _ in 0..count {
             self.written.put_made(symbol, at)?;
             self.written.put_made(b"(".as_slice(), at)?;
@@ -477,7 +488,11 @@ impl<'t> Shorthands<'t> {
         let Some(letting) = self.letting.take() else {
             return Ok(());
         };
-        let term = self.written.part_from(letting.start).to_vec(self.alloc)?;
+        let term = self.written.part_from(letting.start);
+        if term.len() > MAX_NAMED {
+            return Err(LetReason::Long.at(letting.at));
+        }
+        let term = term.to_vec(self.alloc)?;
         match self.lets.add(self.alloc, letting.name, &term) {
             Ok(()) => {
                 self.written.cut(letting.start);

@@ -9,11 +9,9 @@ use crate::patterns::{Pattern, overlap};
 use crate::restoring::{Waiter, Waiters};
 use crate::signs::Signs;
 use crate::spans::Span;
+use ic_text::MAX_WIDE_TEXT;
 use std::alloc::{AllocError, Global};
 use std::collections::BTreeMap;
-
-/// How many bytes are written at most.
-const MAX_MADE: usize = 16_777_216;
 
 /// How many holes are noted at most.
 const MAX_HOLES: usize = 64;
@@ -243,7 +241,7 @@ impl<'t> Splitting<'t> {
     /// Notes a rule that is written before another one.
     fn put_before(&mut self, rule: usize, made: &[u8]) -> Result<(), RichFault> {
         self.made = self.made.saturating_add(made.len());
-        if self.made > MAX_MADE {
+        if self.made > MAX_WIDE_TEXT {
             return Err(RichFault::Refused(Reason::TooLong, self.at(rule)));
         }
         match self.shares.get_mut(rule) {

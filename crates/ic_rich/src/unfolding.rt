@@ -13,13 +13,20 @@ use crate::wording::Wording;
 use crate::written::Written;
 use std::alloc::{AllocError, Global};
 
+/// Whether it is noted whence each part of what is written comes. That may take much memory, and serves what is told of places.
+#[derive(Clone, Copy)]
+pub enum Places {
+    Noted,
+    Left,
+}
+
 /// A text without forms, and whence it comes.
 #[derive(Drop)]
 pub struct Unfolded<'t> {
     /// What the text declares.
     signs: Signs<'t>,
-    /// What the text is without shorthands.
-    long: Written,
+    /// What the text is without shorthands, where places are noted.
+    long: Option<Written>,
     /// What that is without rules by arrows.
     plain: Written,
     /// The holes of its patterns.
@@ -34,9 +41,13 @@ impl Unfolded<'_> {
         self.plain.text()
     }
 
-    /// The place from which comes what stands at a place of the text.
+    /// The place from which comes what stands at a place of the text, where places are noted.
     pub fn place_of(&self, at: usize) -> usize {
-        self.long.place_of(self.plain.place_of(at))
+        let place = self.plain.place_of(at);
+        match &self.long {
+            Some(long) => long.place_of(place),
+            None => place,
+        }
     }
 
     /// The holes of its patterns.
@@ -115,30 +126,38 @@ fn put_text(
 type WithoutArrows = (Written, Vec<Hole>, Waiters);
 
 /// A text with rules of the calculus in the place of those by arrows.
-fn without_arrows(alloc: Global, text: &[u8], signs: Signs) -> Result<WithoutArrows, RichFault> {
+fn without_arrows(
+    alloc: Global,
+    text: &[u8],
+    signs: Signs,
+    notes: bool,
+) -> Result<WithoutArrows, RichFault> {
     let segments = segments_of(alloc, text)?;
     let nests = Nests::of_text(alloc, text, &segments, signs)?;
-    let mut written = Written::new(alloc);
+    let mut written = Written::new(alloc, notes);
     put_text(alloc, text, &segments, &nests, &mut written)?;
     let (holes, waiters) = nests.into_parts();
     Ok((written, holes, waiters))
 }
 
-/// A text without comments and without forms. First numbers, lists, pairs and names by `let` are written as the terms for which they
-/// stand.
-pub fn unfold<'t>(alloc: Global, text: &'t [u8]) -> Result<Unfolded<'t>, RichFault> {
+/// A text without comments and without forms, where places are noted or not. Where they aren't, those of refusals mean nothing.
+fn unfold_noting<'t>(
+    alloc: Global,
+    text: &'t [u8],
+    notes: bool,
+) -> Result<Unfolded<'t>, RichFault> {
     let segments = segments_of(alloc, text)?;
     refuse_foreign(text, &segments)?;
     let signs = signs_of(alloc, text, &segments)?;
-    let long = Shorthands::new(alloc, text, signs).put_all(&segments)?;
-    match without_arrows(alloc, long.text(), signs) {
+    let long = Shorthands::new(alloc, text, signs, notes).put_all(&segments)?;
+    match without_arrows(alloc, long.text(), signs, notes) {
         Ok((plain, mut holes, waiters)) => {
             for hole in holes.iter_mut() {
                 hole.at = long.place_of(hole.at);
             }
             Ok(Unfolded {
                 signs,
-                long,
+                long: notes.then_some(long),
                 plain,
                 holes,
                 waiters,
@@ -149,5 +168,18 @@ pub fn unfold<'t>(alloc: Global, text: &'t [u8]) -> Result<Unfolded<'t>, RichFau
             Err(RichFault::Refused(reason, long.place_of(at)))
         }
         Err(RichFault::Memory) => Err(RichFault::Memory),
+    }
+}
+
+/// A text without comments and without forms. First numbers, lists, pairs and names by `let` are written as the terms for which they
+/// stand.
+pub fn unfold<'t>(
+    alloc: Global,
+    text: &'t [u8],
+    places: Places,
+) -> Result<Unfolded<'t>, RichFault> {
+    match unfold_noting(alloc, text, matches!(places, Places::Noted)) {
+        Err(RichFault::Refused(_, _)) => unfold_noting(alloc, text, true),
+        other => other,
     }
 }

@@ -1,13 +1,11 @@
 //! What a text is written as, and whence each part of it comes.
 
 use crate::fault::{Reason, RichFault};
+use ic_text::MAX_WIDE_TEXT;
 use std::alloc::Global;
 
-/// How many bytes are written at most.
-const MAX_WRITTEN: usize = 16_777_216;
-
 /// From this place on what is written comes from that place of the text on.
-#[derive(Clone, Copy, Debug, PartialEq, Eq)]
+#[derive(Clone, Copy)]
 struct Stretch {
     written: usize,
     read: usize,
@@ -30,14 +28,16 @@ impl Stretch {
 #[derive(Drop)]
 pub struct Written {
     text: Vec<u8>,
-    stretches: Vec<Stretch>,
+    /// Whence it comes, if that is noted.
+    stretches: Option<Vec<Stretch>>,
 }
 
 impl Written {
-    pub(crate) fn new(alloc: Global) -> Written {
+    /// Nothing. It is noted, or not, whence what is written comes.
+    pub(crate) fn new(alloc: Global, notes: bool) -> Written {
         Written {
             text: Vec::new(alloc),
-            stretches: Vec::new(alloc),
+            stretches: notes.then_some(Vec::new(alloc)),
         }
     }
 
@@ -46,9 +46,12 @@ impl Written {
         &self.text
     }
 
-    /// The place in the text from which comes what is written at a place.
+    /// The place in the text from which comes what is written at a place, where that is noted.
     pub fn place_of(&self, at: usize) -> usize {
-        for stretch in self.stretches.iter().rev() {
+        let Some(stretches) = &self.stretches else {
+            return at;
+        };
+        for stretch in stretches.iter().rev() {
             if stretch.written <= at {
                 return stretch.place_of(at);
             }
@@ -56,29 +59,34 @@ impl Written {
         at
     }
 
-    /// Whether what comes from a place, and is made or copied, goes on after what is written.
-    fn goes_on_at(&self, at: usize, is_made: bool) -> bool {
-        match self.stretches.last() {
-            Some(stretch) => {
-                stretch.is_made == is_made && stretch.place_of(self.text.len()) == at
-            }
-            None => false,
+    /// Refuses so many bytes more, which come from a place, if these are too many.
+    pub(crate) fn refuse_beyond(&self, count: u64, at: usize) -> Result<(), RichFault> {
+        if (self.text.len() as u64).saturating_add(count) > MAX_WIDE_TEXT as u64 {
+            return Err(RichFault::Refused(Reason::TooLong, at));
+        }
+        Ok(())
+    }
+
+    /// Notes whence what is written next comes, unless it goes on after what is written.
+    fn note(&mut self, read: usize, is_made: bool) -> Result<(), RichFault> {
+        let written = self.text.len();
+        let Some(stretches) = &mut self.stretches else {
+            return Ok(());
+        };
+        match stretches.last() {
+            Some(last) if last.is_made == is_made && last.place_of(written) == read => Ok(()),
+            _ => Ok(stretches.push(Stretch {
+                written,
+                read,
+                is_made,
+            })?),
         }
     }
 
     /// Writes bytes that come from a place of the text, or are made of what stands there.
     fn put_either(&mut self, bytes: &[u8], at: usize, is_made: bool) -> Result<(), RichFault> {
-        if self.text.len().saturating_add(bytes.len()) > MAX_WRITTEN {
-            return Err(RichFault::Refused(Reason::TooLong, at));
-        }
-        if !self.goes_on_at(at, is_made) {
-            let written = self.text.len();
-            self.stretches.push(Stretch {
-                written,
-                read: at,
-                is_made,
-            })?;
-        }
+        self.refuse_beyond(bytes.len() as u64, at)?;
+        self.note(at, is_made)?;
         Ok(self.text.extend_from_slice(bytes)?)
     }
 
@@ -101,10 +109,13 @@ impl Written {
     /// Takes away what is written from a place on.
     pub(crate) fn cut(&mut self, start: usize) {
         self.text.truncate(start);
-        for _ in 0..self.stretches.len() {
-            match self.stretches.last() {
+        let Some(stretches) = &mut self.stretches else {
+            return;
+        };
+        for _ in 0..stretches.len() {
+            match stretches.last() {
                 Some(stretch) if stretch.written >= start => {
-                    self.stretches.pop();
+                    stretches.pop();
                 }
                 _ => break,
             }

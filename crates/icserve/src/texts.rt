@@ -5,15 +5,15 @@ use crate::reducing::of_memory;
 use crate::several::{configurations_of, out_of_memory};
 use ic_causes::{NotedOutput, Notes, shown_path};
 use ic_exits::Failure;
-use ic_expand::{Files, Found, Several, expand_stream};
+use ic_expand::{Files, Found, MAX_RICH_TEXT, Several, expand_stream};
 use ic_streams::write_line;
 use ic_text::is_blank;
 use std::alloc::{AllocError, Global};
 use std::env;
 use std::io::{self, Read};
 
-/// How many bytes a file of texts has at most: 64 lines of the greatest length.
-const LIMIT: u64 = 16_777_216;
+/// How many bytes a script, and a file that is checked, has at most: 64 lines of the greatest length.
+const LIMIT: usize = 16_777_216;
 
 /// What is said of a file that has more bytes.
 const TOO_LONG: &[u8] = b": it has more than 16777216 bytes\n";
@@ -21,19 +21,30 @@ const TOO_LONG: &[u8] = b": it has more than 16777216 bytes\n";
 /// The bytes of a file, or none where it has more than the limit: of such a file no more are read
 /// than one after the limit.
 pub(crate) fn read_limited<R: Read + Drop>(alloc: Global, file: R) -> io::Result<Option<Vec<u8>>> {
+    read_within(alloc, file, LIMIT)
+}
+
+/// The bytes of a file, or none where it has more than a limit.
+fn read_within<R: Read + Drop>(
+    alloc: Global,
+    file: R,
+    limit: usize,
+) -> io::Result<Option<Vec<u8>>> {
     let mut text = Vec::new(alloc);
-    match append_limited(file, &mut text) {
+    match append_within(file, limit, &mut text) {
         Ok(true) => Ok(Some(text)),
         Ok(false) => Ok(None),
         Err(error) => Err(error),
     }
 }
 
-/// Appends the bytes of a file, as many as the limit and one more at most. It answers whether the file has no more than the
+/// Appends the bytes of a file, as many as a limit and one more at most. It answers whether the file has no more than the
 /// limit.
-fn append_limited<R: Read + Drop>(file: R, text: &mut Vec<u8>) -> io::Result<bool> {
-    let count = file.take(LIMIT + 1).read_to_end(text)?;
-    Ok(count as u64 <= LIMIT)
+fn append_within<R: Read + Drop>(file: R, limit: usize, text: &mut Vec<u8>) -> io::Result<bool> {
+    let count = file
+        .take((limit as u64).saturating_add(1))
+        .read_to_end(text)?;
+    Ok(count <= limit)
 }
 
 /// The line that says of the file of this path that it has too many bytes.
@@ -62,7 +73,7 @@ impl Files for UsedFiles<'_> {
         };
         let notes = Notes::new();
         let read = match open_to_read(self.rt, path, &notes) {
-            Ok(file) => read_limited(alloc, file),
+            Ok(file) => read_within(alloc, file, MAX_RICH_TEXT),
             Err(error) => Err(error),
         };
         match read {
