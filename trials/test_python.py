@@ -194,7 +194,8 @@ class Servers(Package):
         with self.icserve.Server(self.room / "jobs.disk", wait=60) as other:
             self.equals("a second server that waits", "the jobs", ["two"], [it.name for it in other.list()])
         ends.join()
-        self.raised(self.icserve.ServerEnded, server.list)
+        fault = self.raised(self.icserve.ServerEnded, server.list)
+        self.equals("a server that was killed", "what is told", "the server has ended; whatever it has answered is kept", str(fault))
         server.close()
         with self.icserve.Server(self.room / "jobs.disk") as server:
             self.equals("list", "the jobs", ["two"], [it.name for it in server.list()])

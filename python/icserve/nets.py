@@ -113,7 +113,15 @@ def resume(
     workers: Optional[int] = None,
     rounds: Optional[int] = None,
 ) -> Answer:
-    """Goes on with a reduction that is kept."""
+    """Goes on with a reduction that is kept.
+
+    >>> import tempfile
+    >>> room = tempfile.TemporaryDirectory()
+    >>> reduce("{A(B(x))><B(A(x))} <|A(x)=B(x)>", steps=10, keep=room.name + "/kept").is_done
+    False
+    >>> resume(room.name + "/kept", steps=20).interactions
+    20
+    """
     words = options(resume=keep, steps=steps, nodes=nodes, workers=workers, rounds=rounds)
     return answer_of(run("reduce", "--partial", "--stats", "--format", "json", *words))
 
@@ -157,7 +165,11 @@ def finding_of(told: Dict[str, Any]) -> Finding:
 
 
 def expand(text: str) -> str:
-    """A text with comments, long names, copy and erase, as a plain text."""
+    """A text with comments, long names, copy and erase, as a plain text.
+
+    >>> expand("{number S Z} <sum|sum=2>")
+    '{} <a|a=S(S(Z))>'
+    """
     return run("expand", given=text).well().out
 
 
@@ -243,5 +255,9 @@ def work_and_span(rows: Sequence[Row]) -> Tuple[int, int]:
 
 
 def version() -> str:
-    """What `icserve --version` prints."""
+    """What `icserve --version` prints.
+
+    >>> version().split()[0]
+    'icserve'
+    """
     return run("--version").well().out.strip()

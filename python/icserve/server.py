@@ -60,7 +60,20 @@ class Server:
     Job(name='two', state='done', rounds=2, text='<S(S(Z))|>')
     >>> with Server(room.name + "/jobs.disk") as server:
     ...     server.list()
+    ...     server.submit("loop", "{A(B(x))><B(A(x))} <|A(x)=B(x)>", budget=9)
+    ...     server.run(4)
+    ...     server.pause("loop")
+    ...     server.fetch("loop").state
+    ...     server.resume("loop")
+    ...     server.copy("loop", "other")
+    ...     server.cancel("other")
+    ...     server.wait("loop")[:3]
+    ...     server.ask("list")
     [Job(name='two', state='done', rounds=2, text=None)]
+    4
+    'paused'
+    ('loop', 'spent', 9)
+    'jobs two:done:2 loop:spent:9'
     """
 
     def __init__(
@@ -141,7 +154,7 @@ class Server:
             status, told = self._process.wait(), self._process.stderr.read().decode(errors="replace")
             if status > 0:
                 raise Refusal(status, told)
-        raise ServerEnded(told or "the server has ended")
+        raise ServerEnded(f"{told or 'the server has ended'}; whatever it has answered is kept")
 
     def _done(self, line: str) -> str:
         answer = self.ask(line)
