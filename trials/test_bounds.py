@@ -87,6 +87,16 @@ class Bounds(Trial):
             self.below(f"bytes of a million nodes: {what}", 100 * MEGABYTE, memory)
             self.below(f"seconds of a million nodes, in those of a loop: {what}", 20, seconds / fixed_work())
 
+    def test_a_rich_text_takes_little_memory(self):
+        """What is written of these has five, six and three megabytes. Each entry of a list took some 50 bytes, for its place."""
+        for what, text, most in (
+            ("a list", "{list C N}<x|x=[" + ",".join("A" * 1_000_000) + "]>", 60),
+            ("a number", "{number S Z}<x|x=2000000>", 72),
+            ("rules", "{" + ";".join(f"A{k}(x,r)><B=>x~r" for k in range(200_000)) + "}<|>", 80),
+        ):
+            memory, _ = self.taken("expand", given=text)
+            self.below(f"bytes of {what}", most * MEGABYTE, memory)
+
     def test_as_many_symbols_as_there_may_be_and_many_rules_take_little_memory(self):
         """A table of all pairs of symbols would take 34 GB."""
         symbols = "{} <|" + ",".join(f"A{it}=B{it}" for it in range(2**15)) + ">"

@@ -142,9 +142,9 @@ class Use(Trial):
         self.equals(ran.command, "a file of the library comes once", (0, b"<2|>\n"), (ran.status, ran.out))
 
     def test_many_rules_of_files_take_seconds(self):
-        """Those of 16 MB, and of symbols that have one hash; the second file brings the same lines, and no further rule."""
-        chosen = symbols(8_192)
-        for pairs in ([(f"A{k}", f"B{k % 10_000}") for k in range(500_000)], list(itertools.combinations(chosen[:700], 2))):
+        """A hundred thousand, and some of symbols that have one hash; the second file brings the same lines, and no further rule."""
+        chosen = symbols(8_192)[:300]
+        for pairs in ([(f"A{k}", f"B{k % 10_000}") for k in range(100_000)], list(itertools.combinations(chosen, 2))):
             rules = ";".join(f"{one}(x,r)><{other} => x~r" for one, other in pairs)
             self.file("rules.rich", "{" + rules + "; number S Z} <|>")
             self.file("more.rich", "{" + "number S Z;" * 20_000 + 'use "rules.rich"} <|>')
@@ -152,7 +152,7 @@ class Use(Trial):
             before = resource.getrusage(resource.RUSAGE_CHILDREN).ru_utime
             ran = run("expand", path)
             took = resource.getrusage(resource.RUSAGE_CHILDREN).ru_utime - before
-            self.equals(ran.command, f"within 10 seconds of processor time: {took:.2f}", True, took < 10)
+            self.equals(ran.command, f"within 5 seconds of processor time: {took:.2f}", True, took < 5)
             self.equals(ran.command, "how it ends", (0, b""), (ran.status, ran.err))
 
     def test_use_is_a_name_elsewhere(self):
