@@ -9,16 +9,16 @@ PACKAGES = $(shell python3 -c 'import sysconfig; print(sysconfig.get_path("purel
 
 help: # lists these
 	sed -n 's/^\([a-z-]*\): #/make \1: /p' Makefile
-build: # builds the program with nothing proved, in about two minutes; the first ./icserve does so too
+build: # builds the program, nothing proved, in two minutes; the first ./icserve does so too
 	ICSERVE_BUILD=unproved ./icserve
-prove: # proves and builds the program, in half an hour to an hour on 4 cores; from then on ./icserve runs it
+prove: # proves and builds the program, in half an hour to an hour; ./icserve then runs it
 	ICSERVE_BUILD=proved ./icserve
 check: # the gate, ./gate: proves all from nothing, and tries edits, rows and the program
 	./gate
 trials: # tries the program that ./icserve runs
 	program="$$(ICSERVE_BUILD=found ./icserve)"
 	ICSERVE="$$program" python3 trials
-install: # puts the program into PREFIX/bin (if not said ~/.local/bin), the proved one where it is there, its scripts, their manual pages and completions, the library, the examples and the Python package
+install: # copies the program, scripts, pages, library and package below PREFIX (~/.local)
 	to="$(DESTDIR)$(patsubst ~/%,$(HOME)/%,$(PREFIX))"
 	program="$$(ICSERVE_BUILD=found ./icserve)"
 	install -vD "$$program" "$$to/bin/icserve"
@@ -36,7 +36,7 @@ uninstall: # removes from PREFIX what install puts there
 	        "$$from/share/zsh/site-functions/_$$it" "$$from/share/fish/vendor_completions.d/$$it.fish"
 	done
 	rm -rfv "$$from/$(PACKAGES)/icserve" "$$from/share/icserve"
-dist: # makes a release in out/dist, an archive and a package of Debian: of the proved program, or with UNPROVED=1 of one that isn't
+dist: # makes a release in out/dist: an archive and a package (UNPROVED=1: not proved)
 	at=out/icserve name=icserve-unproved
 	if [ -n "$(UNPROVED)" ]; then
 	    ICSERVE_BUILD=unproved ./icserve
@@ -48,12 +48,12 @@ dist: # makes a release in out/dist, an archive and a package of Debian: of the 
 	python3 share/dist.py "$$at" $$name out/dist
 deb: # makes the same: the package of Debian stands beside the archive
 	$(MAKE) dist
-bench: # times the program on the systems of docs/speed.md, beside a plain one where there is a C compiler; WITH=.. hands on words, of which WITH=--help tells
+bench: # times the program, beside a plain one of C (WITH=--help tells of more)
 	mkdir -p out
 	! command -v cc >/dev/null || cc -O2 -o out/plain bench/plain.c
 	program="$$(ICSERVE_BUILD=found ./icserve)"
 	python3 bench "$$program" $$([ ! -x out/plain ] || echo --plain out/plain) $(WITH)
-bench-clients: # times a server: changes in a second of 1, 8 and 64 clients, also where syncs are slow, and rounds by several threads; WITH=.. hands on words
+bench-clients: # times a server of 1, 8 and 64 clients, and rounds by several threads
 	mkdir -p out
 	! command -v cc >/dev/null || cc -O1 -shared -fPIC -o out/shim.so trials/shim.c -ldl -lpthread
 	program="$$(ICSERVE_BUILD=found ./icserve)"

@@ -79,7 +79,8 @@ class Install(Trial):
 
     def test_each_option_of_a_script_stands_in_its_page_and_in_its_completions(self):
         for script, file in SCRIPTS.items():
-            text = run("--help", program=TOP / file).out.decode()
+            text = run("--help", program=TOP / file, env={**os.environ, "COLUMNS": "200"}).out.decode()
+            self.equals(f"{file} --help", "lines of more than 100 columns", [], [it for it in text.split("\n") if len(it) > 100])
             options = self.options(text.replace("options:", "Options:").replace("optional arguments:", "Options:"))
             self.equals(f"{file} --help", "whether it has options", True, len(options) > 1)
             for option in options:

@@ -7,6 +7,7 @@ import json
 import os
 import re
 import secrets
+import shutil
 import signal
 import subprocess
 import sys
@@ -328,8 +329,13 @@ def is_there() -> bool:
         return False
 
 
+def narrow(prog: str) -> argparse.HelpFormatter:
+    """A help is at most 100 columns wide."""
+    return argparse.HelpFormatter(prog, width=min(100, shutil.get_terminal_size().columns - 2))
+
+
 def main() -> int:
-    form = argparse.ArgumentParser("icserve-page", description="Shows a page in the browser on which nets are written, reduced, stepped through and drawn.")
+    form = argparse.ArgumentParser("icserve-page", formatter_class=narrow, description="Shows a page in the browser on which nets are written, reduced, stepped through and drawn.")
     form.add_argument("--socket", metavar="PATH", help="the socket of a server of jobs, which icserve-listen runs: its jobs are shown too")
     form.add_argument("--port", metavar="N", type=int, default=0, help="the port on 127.0.0.1; without it a free one")
     form.add_argument("--open", action="store_true", help="opens the page in a browser")
