@@ -11,3 +11,5 @@ pub mod HeadLemmas
 pub mod PutWords
 pub mod StackedSpans
 pub mod WrittenSpans
+pub mod BoundEntries
+pub mod PlaceLemmas

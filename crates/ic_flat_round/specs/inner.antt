@@ -6,3 +6,4 @@ pub mod Heads
 pub mod Waits
 pub mod Rebuilding
 pub mod Activity
+pub mod Places

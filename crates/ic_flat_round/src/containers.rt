@@ -1,23 +1,18 @@
 //! The equations in which a name stands.
 
-ghost use Rattle.std.specs.Prelude.{◌≡◌, ◌==◌, ℕ, ◌+◌, ◌<◌, ◌≤◌, None, Some, IfSome, OnOk, length, drop, nat_eq, slice_index, if◌then◌else◌};
+ghost use Rattle.std.specs.Prelude.{◌≡◌, ℕ, ◌+◌, ◌<◌, ◌≤◌, None, IfSome, OnOk, length, drop, slice_index};
 ghost use Rattle.std.specs.List.{flat_map};
-ghost use Rattle.indexmap.specs.IndexMap.{get};
-ghost use Rattle.ic_settle.specs.lemmas.Containers.{IsLinked, IsRoot, AreUnlinkedFrom, AreKnown, IsChosen, noted, noted_in, noted_equations, noted_from, elsewhere};
+ghost use Rattle.ic_settle.specs.lemmas.Containers.{IsLinked, IsRoot, AreUnlinkedFrom, AreKnown, IsChosen, noted_in, noted_equations, noted_from, elsewhere};
 ghost use Rattle.ic_flat.specs.Words.{IsWhole, word_names};
 ghost use Rattle.ic_flat_rules.specs.Standing.{pairs_at, AreInTwos, IsEquationsPlace};
 ghost use Rattle.ic_flat_round.specs.inner.Heads.{head, heads, told_at, told, IsTarget};
+ghost use Rattle.ic_flat_round.specs.inner.Places.{found};
 
+use crate::places::Places;
 use ic_flat::{Flat, Word};
 use ic_flat_rules::sides_at;
 use ic_settle::{Applicable, Side};
-use indexmap::IndexMap;
-use indexmap::map::Entry;
 use std::alloc::{AllocError, Global};
-
-/// For each name the first and the last container in which it occurs: the number of an equation, or for the interface
-/// how many equations there are.
-type Places = IndexMap<u64, (usize, usize)>;
 
 /// Where each name occurs while equations are removed. What a removed equation holds goes to another container, by a
 /// link from its number.
@@ -27,33 +22,20 @@ pub(crate) struct Containers {
     places: Places,
 }
 
-fn note(places: &mut Places, name: u64, place: usize) -> Result<(), AllocError>
-    ensures { OnOk result ((y : ℕ) → get nat_eq places.new y
-        ≡ (if name == y then noted place (get nat_eq places.old y) else get nat_eq places.old y)) }
-{
-    match places.entry(name)? {
-        Entry::Occupied(mut entry) => entry.get_mut().1 = place,
-        Entry::Vacant(entry) => {
-            entry.insert((place, place));
-        }
-    }
-    Ok(())
-}
-
 fn note_word(places: &mut Places, word: Word, place: usize) -> Result<(), AllocError>
-    ensures { OnOk result ((y : ℕ) → get nat_eq places.new y
-        ≡ noted_in y place (word_names word) (get nat_eq places.old y)) }
+    ensures { OnOk result ((y : ℕ) → found places.new y
+        ≡ noted_in y place (word_names word) (found places.old y)) }
 {
     match word {
-        Word::Name(name) => note(places, name, place),
+        Word::Name(name) => places.note(name, place),
         Word::Agent(_, _) => Ok(()),
     }
 }
 
 /// Notes the names among words that occur in a container.
 fn note_words(places: &mut Places, words: &[Word], place: usize) -> Result<(), AllocError>
-    ensures { OnOk result ((y : ℕ) → get nat_eq places.new y
-        ≡ noted_in y place (flat_map word_names words.now) (get nat_eq places.old y)) }
+    ensures { OnOk result ((y : ℕ) → found places.new y
+        ≡ noted_in y place (flat_map word_names words.now) (found places.old y)) }
 {
     for word in words {
         note_word(places, *word, place)?;
@@ -66,8 +48,8 @@ fn note_equations(places: &mut Places, words: &[Word], from: usize) -> Result<()
     requires whole { IsWhole words.now }
     requires within { from ≤ length words.now }
     requires twos { AreInTwos words.now from }
-    ensures { OnOk result ((y : ℕ) → get nat_eq places.new y
-        ≡ noted_equations y 0 (pairs_at words.now from) (get nat_eq places.old y)) }
+    ensures { OnOk result ((y : ℕ) → found places.new y
+        ≡ noted_equations y 0 (pairs_at words.now from) (found places.old y)) }
 {
     let mut place = from;
     let mut number = 0;
@@ -122,10 +104,10 @@ fn find_outlet(
     place: usize,
 ) -> Option<(Applicable, usize)>
     requires linked { IsLinked links.old }
-    requires known { AreKnown links.old (get nat_eq places.now) }
+    requires known { AreKnown links.old (found places.now) }
     ensures linked { IsLinked links.new }
     ensures root { (r : ℕ → ℕ) → IsRoot links.old r
-        → (result ≡ told_at (λ y. elsewhere r place (get nat_eq places.now y)) side (head word))
+        → (result ≡ told_at (λ y. elsewhere r place (found places.now y)) side (head word))
         × IsRoot links.new r }
     ensures target { IfSome result (λ o. IsTarget links.new place o.1) }
     ensures unlinked { (e : ℕ) → slice_index links.old e ≡ e → slice_index links.new e ≡ e }
@@ -133,7 +115,7 @@ fn find_outlet(
     let Word::Name(name) = word else {
         return None;
     };
-    let (first, last) = *places.get(&name)?;
+    let (first, last) = places.get(name)?;
     let target = root(links, first);
     if target != place {
         return Some((Applicable { name, side }, target));
@@ -154,10 +136,10 @@ fn first_outlet(
     place: usize,
 ) -> Option<(Applicable, usize)>
     requires linked { IsLinked links.old }
-    requires known { AreKnown links.old (get nat_eq places.now) }
+    requires known { AreKnown links.old (found places.now) }
     ensures linked { IsLinked links.new }
     ensures root { (r : ℕ → ℕ) → IsRoot links.old r
-        → (result ≡ told (λ y. elsewhere r place (get nat_eq places.now y))
+        → (result ≡ told (λ y. elsewhere r place (found places.now y))
         (head left) (head right))
         × IsRoot links.new r }
     ensures target { IfSome result (λ o. IsTarget links.new place o.1) }
@@ -174,7 +156,7 @@ impl Containers {
     pub fn new(alloc: Global) -> Containers {
         Containers {
             links: Vec::new(alloc),
-            places: IndexMap::new(alloc),
+            places: Places::new(alloc),
         }
     }
 
@@ -185,13 +167,12 @@ impl Containers {
         ensures length { OnOk result (length self.new.links.items ≡ length flat.now.equations + 1) }
         ensures own { OnOk result ((e : ℕ) → e < length flat.now.equations + 1
             → slice_index self.new.links.items e ≡ e) }
-        ensures places { OnOk result ((y : ℕ) → get nat_eq self.new.places y
+        ensures places { OnOk result ((y : ℕ) → found self.new.places y
             ≡ noted_from y 0 flat.now.equations flat.now.interface None) }
     {
         let words = flat.words();
         let count = flat.equations_len();
-        self.places.clear();
-        self.places.reserve(count)?;
+        self.places.clear(words.len())?;
         note_equations(&mut self.places, words, from)?;
         note_words(&mut self.places, &words[..from], count)?;
         unlink(&mut self.links, count + 1)?;
@@ -204,13 +185,13 @@ impl Containers {
         requires inside { place < length self.old.links.items }
         requires linked { IsLinked self.old.links.items }
         requires free { AreUnlinkedFrom place self.old.links.items }
-        requires known { AreKnown self.old.links.items (get nat_eq self.old.places) }
+        requires known { AreKnown self.old.links.items (found self.old.places) }
         ensures linked { IsLinked self.new.links.items }
         ensures length { length self.new.links.items ≡ length self.old.links.items }
         ensures free { AreUnlinkedFrom (place + 1) self.new.links.items }
         ensures places { self.new.places ≡ self.old.places }
         ensures chosen { (r : ℕ → ℕ) → IsRoot self.old.links.items r
-            → IsChosen r place (get nat_eq self.old.places) (heads left right)
+            → IsChosen r place (found self.old.places) (heads left right)
             self.new.links.items result }
     {
         let (applicable, target) = first_outlet(&mut self.links, &self.places, left, right, place)?;

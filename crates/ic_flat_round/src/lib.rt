@@ -17,6 +17,7 @@ mod filling;
 mod fired;
 mod firing;
 mod pass;
+mod places;
 mod planning;
 mod rebuilding;
 mod rounds;

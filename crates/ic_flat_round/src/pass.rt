@@ -6,7 +6,7 @@ ghost use Rattle.ic_settle.specs.lemmas.Passed.{IsPassed};
 ghost use Rattle.ic_flat.specs.Flat.{configuration_words};
 ghost use Rattle.ic_flat_round.specs.inner.Waits.{waiting, AreWithin, IsKeptWithin, kept_at, other_place};
 
-use crate::bound::{Bound, resolved};
+use crate::bound::{Bound, bind, resolved};
 use crate::containers::Containers;
 use ic_flat::Flat;
 use ic_flat_rules::{equations_place, sides_at};
@@ -41,7 +41,6 @@ pub(crate) fn pass(
     let mut place = equations_place(flat);
     containers.refill(flat, place)?;
     bound.clear();
-    bound.reserve(count)?;
     kept.clear();
     kept.reserve(count)?;
     let mut number = 0;
@@ -51,7 +50,8 @@ pub(crate) fn pass(
         let right = resolved(words, sides.right, bound);
         match containers.applicable(words[left], words[right], number) {
             Some(applicable) => {
-                bound.insert(applicable.name, other_place(left, right, applicable.side))?;
+                let other = other_place(left, right, applicable.side);
+                bind(bound, applicable.name, other)?;
             }
             None => kept.push(Kept { left, right })?,
         }

@@ -18,11 +18,12 @@ use crate::rebuilding::{Span, put_equations, put_terms};
 use ic_flat::{Flat, Word};
 use ic_flat_rules::FlatRules;
 use ic_round::RoundFault;
-use indexmap::IndexMap;
 use std::alloc::{AllocError, Global};
+use std::collections::BTreeMap;
 use std::mem;
 
-/// Lists that are kept from one round to the next, so that rounds take no memory once they are long enough.
+/// Lists that are kept from one round to the next, so that rounds take memory only for trees of names once they are long
+/// enough.
 #[derive(Drop)]
 pub struct Workspace {
     fired: Vec<Word>,
@@ -40,14 +41,14 @@ impl Workspace {
             fired: Vec::new(alloc),
             settled: Vec::new(alloc),
             containers: Containers::new(alloc),
-            bound: IndexMap::new(alloc),
+            bound: BTreeMap::new(alloc),
             kept: Vec::new(alloc),
             stack: Vec::new(alloc),
         }
     }
 
     /// The configuration, settled. Takes time nearly in proportion to its nodes, and memory only where a list is too
-    /// short.
+    /// short, and for trees of names.
     pub fn settle(&mut self, alloc: Global, flat: &Flat) -> Result<Flat, AllocError>
         ensures settled { IfOk result (λ after. after ≡ settled flat.now) }
         ensures reached { IfOk result (λ after. NameSteps flat.now after) }

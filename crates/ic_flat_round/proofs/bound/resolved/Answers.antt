@@ -3,12 +3,12 @@ use Rattle.ic_term.specs.Tree.{Tree, agent, trees_of}
 use Rattle.ic_settle.specs.lemmas.Waiting.{IsTaken, Resolves, nodes_kept}
 use Rattle.ic_settle.specs.lemmas.PutEach.{one_node}
 use Rattle.ic_settle.specs.lemmas.Delays.{ResolvesSoFar, resolves-start, resolves-more, resolves-name, resolves-agent}
-use Rattle.ic_settle.specs.lemmas.Taking.{take_is}
 use Rattle.ic_flat.specs.declared.word.Word.TheVariants.{Name}
 use Rattle.ic_flat.specs.Words.{forest}
 use Rattle.ic_flat_rules.specs.Standing.{tree_at}
 use Rattle.ic_flat_round.specs.inner.Waits.{waiting}
 use Rattle.ic_flat_rules.specs.lemmas.WordPlaces.{name_at, agent_at}
+use Rattle.ic_flat_round.proofs.BoundEntries.{taken_is}
 use Rattle.ic_flat_round.proofs.BoundPlaces.{within-removed}
 use Rattle.ic_flat_round.proofs.bound.resolved.Goals as goal
 
@@ -24,7 +24,7 @@ loop-place-smaller c =
     let ws = c.args.words.now in
     let u = tree_at ws c.in-Some.term in
     let taken : IsTaken (waiting ws c.loop-place.bound.entries) (waiting ws c.unbound.new.bound.entries) c.in-Name.name u =
-    take_is (tree_at ws) c.loop-place.bound.entries c.unbound.new.bound.entries c.in-Name.name (Some c.in-Some.term)
+    taken_is (tree_at ws) c.loop-place.bound.entries c.unbound.new.bound.entries c.in-Name.name (Some c.in-Some.term)
     c.in-Some.ensures.value c.in-Some.ensures.updates c.in-Some.ensures.entries c.in-Some.ensures.unchanged in
     let fewer = taken.nodes in
     let some = (one_node u).1 in
@@ -42,7 +42,7 @@ loop-place-preserved c =
     let given = waiting ws c.args.bound.now.entries in
     let t = tree_at ws c.args.place in
     let taken : IsTaken (waiting ws es) (waiting ws es') x u =
-    take_is (tree_at ws) es es' x (Some c.in-Some.term) c.in-Some.ensures.value c.in-Some.ensures.updates c.in-Some.ensures.entries c.in-Some.ensures.unchanged in
+    taken_is (tree_at ws) es es' x (Some c.in-Some.term) c.in-Some.ensures.value c.in-Some.ensures.updates c.in-Some.ensures.entries c.in-Some.ensures.unchanged in
     let P : Tree → Type 0 = λ v. ResolvesSoFar given (waiting ws es) t v in
     record {
       there = i.within x c.in-Some.term (sym c.in-Some.ensures.value);
@@ -60,7 +60,7 @@ returns-in-None-clause-resolves c =
     let given = waiting ws c.args.bound.now.entries in
     let t = tree_at ws c.args.place in
     let nothing : Option ℕ = None in
-    let absent = take_is (tree_at ws) es es' x nothing c.in-None.ensures.value c.in-None.ensures.updates c.in-None.ensures.entries c.in-None.ensures.unchanged in
+    let absent = taken_is (tree_at ws) es es' x nothing c.in-None.ensures.value c.in-None.ensures.updates c.in-None.ensures.entries c.in-None.ensures.unchanged in
     let here = name_at ws c.loop-place.place (Name 0) x i.there c.in-Name.is in
     let P : Tree → Type 0 = λ v. ResolvesSoFar given (waiting ws es) t v in
     let Q : Tree → Type 0 = λ v. Resolves given (waiting ws es) t v in

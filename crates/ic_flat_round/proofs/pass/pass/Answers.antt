@@ -1,26 +1,25 @@
 use Rattle.std.proofs.Common.{◌≡◌, ℕ, ◌<◌, ◌∙◌, List, [], Some, length, get_or, map, sym, ap, arith, subst as transport}
-use Rattle.std.specs.Prelude.{nat_eq}
 use Rattle.std.specs.List.{AllByRecursion}
-use Rattle.indexmap.specs.IndexMap.{get}
 use Rattle.ic_settle.specs.lemmas.Waiting.{IsAdded}
 use Rattle.ic_settle.specs.lemmas.Containers.{IsRoot, IsChosen}
 use Rattle.ic_settle.specs.lemmas.Links.{own-linked}
 use Rattle.ic_settle.specs.lemmas.Spots.{placed-within}
 use Rattle.ic_settle.specs.lemmas.Passed.{IsPassed}
 use Rattle.ic_settle.specs.lemmas.Passing.{passing-start}
-use Rattle.ic_settle.specs.lemmas.Taking.{insert_is}
 use Rattle.ic_flat.specs.declared.word.Word.{Word}
 use Rattle.ic_flat.specs.declared.word.Word.TheVariants.{Name}
 use Rattle.ic_flat_round.specs.declared.pass.Kept.{Kept}
 use Rattle.ic_flat_rules.specs.Standing.{tree_at, pairs_at}
 use Rattle.ic_flat_round.specs.inner.Waits.{waiting, AreWithin, IsKeptWithin, kept_at, other_place}
 use Rattle.ic_flat_rules.specs.lemmas.WordPlaces.{whole_words, pairs_start, twos_start, within_start, pairs_end}
+use Rattle.ic_flat_round.specs.inner.Places.{found}
+use Rattle.ic_flat_round.proofs.BoundEntries.{added_is}
 use Rattle.ic_flat_round.proofs.BoundPlaces.{within-none, within-added}
 use Rattle.ic_flat_round.proofs.StackedSpans.{all_push}
 use Rattle.ic_flat_round.proofs.HeadLemmas.{chosen_at}
 use Rattle.ic_flat_round.proofs.PassingWords.{passing_at-start, turned-none, turned-new, turned-some, passed-at, other_there}
 use Rattle.ic_flat_round.proofs.pass.pass.Goals as goal
-use Rattle.ic_flat_round.proofs.pass.pass.Goals.{in-Some+in_ok-insert-in-Some, in-None+in_ok-push-in-None}
+use Rattle.ic_flat_round.proofs.pass.pass.Goals.{in-Some+in_ok-bind-in-Some, in-None+in_ok-push-in-None}
 
 pub loop-place-init : goal.loop-place-init
 loop-place-init c =
@@ -31,13 +30,13 @@ loop-place-init c =
     let place = c.equations_place-place.result in
     let start = c.equations_place-place.ensures in
     let links = c.refill.new.self.links.items in
-    let look = get nat_eq c.refill.new.self.places in
+    let look = found c.refill.new.self.places in
     let made = c.in_ok-refill.ensures in
     let own : (e : ℕ) → e < length links → get_or links e 0 ≡ e = λ e within. made.own e (omega (arith, made.length)) in
-    let kept = c.reserve-2.new.self.items in
-    let none : kept ≡ [] = c.in_ok-reserve-2.ensures.items ∙ c.clear-2.ensures.items in
-    let es = c.reserve.new.self.entries in
-    let nothing : es ≡ [] = c.in_ok-reserve.ensures.entries ∙ c.clear.ensures.empty in
+    let kept = c.reserve.new.self.items in
+    let none : kept ≡ [] = c.in_ok-reserve.ensures.items ∙ c.clear-2.ensures.items in
+    let es = c.clear.new.self.entries in
+    let nothing : es ≡ [] = c.clear.ensures.empty in
     record {
       at = within_start flat ws place is start.within;
       twos = twos_start flat ws place is start.equations;
@@ -58,6 +57,7 @@ pub sides_at-sides-requires-clause-whole : goal.sides_at-sides-requires-clause-w
 sides_at-sides-requires-clause-whole c = whole_words c.args.flat.now c.words-words.result.now c.words-words.ensures.words
 
 pub loop-place-preserved : goal.loop-place-preserved
+unfolding found
 loop-place-preserved c =
     let flat = c.args.flat.now in
     let ws = c.words-words.result.now in
@@ -74,9 +74,9 @@ loop-place-preserved c =
     let kept = c.loop-place.kept.items in
     let links = c.loop-place.containers.links.items in
     let links' = c.applicable.new.self.links.items in
-    let look = get nat_eq c.loop-place.containers.places in
-    let look' = get nat_eq c.applicable.new.self.places in
-    let same_look : look' ≡ look = ap (λ m. get nat_eq m) c.applicable.ensures.places in
+    let look = found c.loop-place.containers.places in
+    let look' = found c.applicable.new.self.places in
+    let same_look : look' ≡ look = ap found c.applicable.ensures.places in
     let number = c.loop-place.number in
     let found = c.applicable.result in
     let applied = c.applicable.ensures in
@@ -87,15 +87,15 @@ loop-place-preserved c =
     let both = i.known y p (ap (λ f. f y) (sym same_look) ∙ is) in
     (omega (arith, both.0, applied.length), omega (arith, both.1, applied.length)) in
     elim c.match-applicable.branch [
-      | in-Some+in_ok-insert-in-Some w ↦
+      | in-Some+in_ok-bind-in-Some w ↦
           let a = w.in-Some.applicable in
-          let after = w.insert.new.self.entries in
+          let after = w.bind.new.bound.entries in
           let none = turned-new flat ws kept es es' es'' links links' look number (pairs_at ws c.loop-place.place) s left right found i.passing sides.equations
           c.resolved-left.ensures.resolves c.resolved-right.ensures.resolves says a w.in-Some.is in
-          let added = insert_is (tree_at ws) es'' after a.name w.other_place.result none w.in_ok-insert-in-Some.ensures.updates.0 w.in_ok-insert-in-Some.ensures.entries in
+          let added = added_is (tree_at ws) es'' after a.name w.other_place-other.result none w.in_ok-bind-in-Some.ensures.updates w.in_ok-bind-in-Some.ensures.entries in
           let turned : IsAdded (waiting ws es'') (waiting ws after) a.name (tree_at ws (other_place left right a.side)) =
-          transport (λ (p : ℕ). IsAdded (waiting ws es'') (waiting ws after) a.name (tree_at ws p)) w.other_place.ensures added in
-          let placed : w.other_place.result < length ws = omega (arith, w.other_place.ensures, other_there (length ws) left right a.side there right_there) in
+          transport (λ (p : ℕ). IsAdded (waiting ws es'') (waiting ws after) a.name (tree_at ws p)) w.other_place-other.ensures added in
+          let placed : w.other_place-other.result < length ws = omega (arith, w.other_place-other.ensures, other_there (length ws) left right a.side there right_there) in
           rw (w.bound-is, w.kept-is, same_look) (record {
             at = sides.sides.right.within;
             twos = sides.twos;
@@ -103,7 +103,7 @@ loop-place-preserved c =
             size = applied.length ∙ i.size;
             free = applied.free;
             known = known;
-            within = within-added ws es'' after a.name w.other_place.result c.resolved-right.ensures.within placed w.in_ok-insert-in-Some.ensures.updates.0;
+            within = within-added ws es'' after a.name w.other_place-other.result c.resolved-right.ensures.within placed w.in_ok-bind-in-Some.ensures.updates;
             kept = i.kept;
             passing = turned-some flat ws kept es es' es'' links links' look number (pairs_at ws c.loop-place.place) s left right found i.passing sides.equations
                 c.resolved-left.ensures.resolves c.resolved-right.ensures.resolves says a w.in-Some.is after turned;
@@ -133,7 +133,7 @@ returns-clause-passed c =
     let kept = c.loop-place.kept.items in
     let es = c.loop-place.bound.entries in
     let rest = pairs_at ws c.loop-place.place in
-    let passed = passed-at flat (map (kept_at ws) kept) (waiting ws es) c.loop-place.containers.links.items (get nat_eq c.loop-place.containers.places) c.loop-place.number rest i.passing
+    let passed = passed-at flat (map (kept_at ws) kept) (waiting ws es) c.loop-place.containers.links.items (found c.loop-place.containers.places) c.loop-place.number rest i.passing
     (pairs_end ws c.loop-place.place c.loop-place-test.false) in
     transport (λ (l : List Word). IsPassed flat (map (kept_at l) kept) (waiting l es)) c.words-words.ensures.words passed
 

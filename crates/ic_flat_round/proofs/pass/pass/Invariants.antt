@@ -1,10 +1,9 @@
 use Rattle.std.proofs.Common.{◌≡◌, ◌+◌, ◌-◌, ◌≤◌, length, map}
-use Rattle.std.specs.Prelude.{nat_eq}
 use Rattle.std.specs.List.{AllByRecursion}
-use Rattle.indexmap.specs.IndexMap.{get}
 use Rattle.ic_settle.specs.lemmas.Containers.{IsLinked, AreUnlinkedFrom, AreKnown}
 use Rattle.ic_flat_rules.specs.Standing.{pairs_at, AreInTwos}
 use Rattle.ic_flat_round.specs.inner.Waits.{waiting, AreWithin, IsKeptWithin, kept_at}
+use Rattle.ic_flat_round.specs.inner.Places.{found}
 use Rattle.ic_flat_round.proofs.PassingWords.{IsPassingAt}
 use Rattle.ic_flat_round.proofs.pass.pass.Given as goal
 
@@ -16,11 +15,11 @@ invariant-loop-place l = record {
   linked : IsLinked l.containers.links.items;
   size : length l.containers.links.items ≡ length l.flat.equations + 1;
   free : AreUnlinkedFrom l.number l.containers.links.items;
-  known : AreKnown l.containers.links.items (get nat_eq l.containers.places);
+  known : AreKnown l.containers.links.items (found l.containers.places);
   within : AreWithin l.words l.bound.entries;
   kept : AllByRecursion (IsKeptWithin l.words) l.kept.items;
   passing :
-      IsPassingAt l.flat (map (kept_at l.words) l.kept.items) (waiting l.words l.bound.entries) l.containers.links.items (get nat_eq l.containers.places) l.number
+      IsPassingAt l.flat (map (kept_at l.words) l.kept.items) (waiting l.words l.bound.entries) l.containers.links.items (found l.containers.places) l.number
       (pairs_at l.words l.place);
 }
 

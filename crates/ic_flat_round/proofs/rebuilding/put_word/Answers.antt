@@ -2,9 +2,9 @@ use Rattle.std.proofs.Common.{ℕ, ◌+◌, Option, None, Some, drop, sym, arith
 use Rattle.std.proofs.lemmas.List.{length-drop}
 use Rattle.ic_flat.specs.declared.word.Word.TheVariants.{Name}
 use Rattle.ic_flat.specs.lemmas.WordLaws.{forest-le}
-use Rattle.ic_settle.specs.lemmas.Taking.{take_is}
 use Rattle.ic_flat_rules.specs.Standing.{tree_at}
 use Rattle.ic_flat_round.specs.inner.Waits.{waiting}
+use Rattle.ic_flat_round.proofs.BoundEntries.{taken_is}
 use Rattle.ic_flat_round.proofs.StackedSpans.{span_of-one, span-agent}
 use Rattle.ic_flat_round.proofs.WrittenSpans.{word-bound, word-name, word-agent}
 use Rattle.ic_flat_round.proofs.rebuilding.put_word.Goals as goal
@@ -29,7 +29,7 @@ returns-in_ok-push-in-Some-clause-puts c =
     let ws = c.args.words.now in
     let es = c.args.bound.now.entries in
     let es' = c.unbound.new.bound.entries in
-    let taken = take_is (tree_at ws) es es' c.in-Name.name (Some c.in-Some.place) c.in-Some.ensures.value c.in-Some.ensures.updates c.in-Some.ensures.entries c.in-Some.ensures.unchanged in
+    let taken = taken_is (tree_at ws) es es' c.in-Name.name (Some c.in-Some.place) c.in-Some.ensures.value c.in-Some.ensures.updates c.in-Some.ensures.entries c.in-Some.ensures.unchanged in
     (word-bound ws c.args.span (Name 0) c.requires.span c.requires.some (waiting ws es) (waiting ws es') c.args.out.now.items c.args.stack.now.items c.push.new.self.items
     c.in-Name.name c.in-Some.place c.in-Name.is taken (c.requires.within c.in-Name.name c.in-Some.place (sym c.in-Some.ensures.value)) c.in_ok-push-in-Some.ensures.items).0
 
@@ -38,7 +38,7 @@ returns-in_ok-push-in-Some-clause-less c =
     let ws = c.args.words.now in
     let es = c.args.bound.now.entries in
     let es' = c.unbound.new.bound.entries in
-    let taken = take_is (tree_at ws) es es' c.in-Name.name (Some c.in-Some.place) c.in-Some.ensures.value c.in-Some.ensures.updates c.in-Some.ensures.entries c.in-Some.ensures.unchanged in
+    let taken = taken_is (tree_at ws) es es' c.in-Name.name (Some c.in-Some.place) c.in-Some.ensures.value c.in-Some.ensures.updates c.in-Some.ensures.entries c.in-Some.ensures.unchanged in
     (word-bound ws c.args.span (Name 0) c.requires.span c.requires.some (waiting ws es) (waiting ws es') c.args.out.now.items c.args.stack.now.items c.push.new.self.items
     c.in-Name.name c.in-Some.place c.in-Name.is taken (c.requires.within c.in-Name.name c.in-Some.place (sym c.in-Some.ensures.value)) c.in_ok-push-in-Some.ensures.items).1
 
@@ -48,7 +48,7 @@ returns-in_ok-push-in-None-clause-puts c =
     let es = c.args.bound.now.entries in
     let es' = c.unbound.new.bound.entries in
     let nothing : Option ℕ = None in
-    let absent = take_is (tree_at ws) es es' c.in-Name.name nothing c.in-None.ensures.value c.in-None.ensures.updates c.in-None.ensures.entries c.in-None.ensures.unchanged in
+    let absent = taken_is (tree_at ws) es es' c.in-Name.name nothing c.in-None.ensures.value c.in-None.ensures.updates c.in-None.ensures.entries c.in-None.ensures.unchanged in
     (word-name ws c.args.span (Name 0) c.requires.span c.requires.some (waiting ws es) (waiting ws es') c.args.out.now.items c.push-in-None.new.self.items c.args.stack.now.items
     c.in-Name.name c.in-Name.is absent.0 absent.1 c.in_ok-push-in-None.ensures.items).0
 
@@ -58,7 +58,7 @@ returns-in_ok-push-in-None-clause-less c =
     let es = c.args.bound.now.entries in
     let es' = c.unbound.new.bound.entries in
     let nothing : Option ℕ = None in
-    let absent = take_is (tree_at ws) es es' c.in-Name.name nothing c.in-None.ensures.value c.in-None.ensures.updates c.in-None.ensures.entries c.in-None.ensures.unchanged in
+    let absent = taken_is (tree_at ws) es es' c.in-Name.name nothing c.in-None.ensures.value c.in-None.ensures.updates c.in-None.ensures.entries c.in-None.ensures.unchanged in
     (word-name ws c.args.span (Name 0) c.requires.span c.requires.some (waiting ws es) (waiting ws es') c.args.out.now.items c.push-in-None.new.self.items c.args.stack.now.items
     c.in-Name.name c.in-Name.is absent.0 absent.1 c.in_ok-push-in-None.ensures.items).1
 

@@ -1,11 +1,10 @@
 use Rattle.std.proofs.Common.{◌≡◌, ◌<◌, ℕ, List, length, sym, ap, ◌∙◌, arith, subst as transport}
 use Rattle.std.proofs.Math.ListN.{set}
 use Rattle.std.proofs.lemmas.List.{with_items_is}
-use Rattle.std.specs.Prelude.{nat_eq}
-use Rattle.indexmap.specs.IndexMap.{get}
 use Rattle.ic_settle.specs.lemmas.Containers.{IsRoot}
 use Rattle.ic_settle.specs.lemmas.Links.{still-free, set-linked, set-unlinked, set-root}
 use Rattle.ic_flat_round.specs.inner.Heads.{heads}
+use Rattle.ic_flat_round.specs.inner.Places.{found}
 use Rattle.ic_flat_round.proofs.HeadLemmas.{chosen-some}
 use Rattle.ic_flat_round.proofs.containers.Containers.applicable.Goals as goal
 
@@ -47,5 +46,5 @@ returns-clause-chosen c =
     rw (with_items_is c.args.self.now.links links same) (λ r is.
     let P : List ℕ → Type 0 = λ l. IsRoot l r in
     let ends = c.in_ok-applicable.ensures.root r (transport P (sym c.deref_mut.ensures.value) is) in
-    chosen-some r c.args.place (get nat_eq c.args.self.now.places) (heads c.args.left c.args.right) (set links c.args.place target) c.in_ok-applicable.applicable target ends.0
+    chosen-some r c.args.place (found c.args.self.now.places) (heads c.args.left c.args.right) (set links c.args.place target) c.in_ok-applicable.applicable target ends.0
     (set-root links c.in_ok-applicable.ensures.linked c.args.place target inside free to.0 to.1.0 to.1.1 r ends.1))

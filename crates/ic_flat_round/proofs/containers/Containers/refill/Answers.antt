@@ -1,11 +1,10 @@
 use Rattle.std.proofs.Common.{◌≡◌, ◌∙◌, ◌+◌, None, length, ap, arith}
-use Rattle.std.specs.Prelude.{nat_eq}
 use Rattle.std.specs.List.{flat_map}
-use Rattle.std.specs.Map.{lookup}
 use Rattle.ic_term.specs.Tree.{names}
 use Rattle.ic_settle.specs.lemmas.Containers.{noted_in, noted_equations}
 use Rattle.ic_settle.specs.lemmas.Spots.{noted_after}
 use Rattle.ic_flat_rules.specs.lemmas.WordPlaces.{whole_words, equations_few, pairs_start, twos_start, within_start}
+use Rattle.ic_flat_round.specs.inner.Places.{found}
 use Rattle.ic_flat_round.proofs.PassingWords.{names-interface}
 use Rattle.ic_flat_round.proofs.containers.Containers.refill.Goals as goal
 
@@ -33,8 +32,8 @@ returns-clause-places c = λ y.
     let pairs = pairs_start flat ws c.args.from c.words-words.ensures.words start.equations in
     let names_is = names-interface flat ws c.args.from c.words-words.ensures.words start.within start.equations in
     c.in_ok-note_words.ensures y
-    ∙ ap (λ l. noted_in y n l (lookup (nat_eq y) c.note_equations.new.places.entries)) names_is
+    ∙ ap (λ l. noted_in y n l (found c.note_equations.new.places y)) names_is
     ∙ ap (noted_in y n (flat_map names flat.interface))
-    (c.in_ok-note_equations.ensures y ∙ ap (λ l. noted_equations y 0 l (lookup (nat_eq y) c.reserve.new.self.entries)) pairs
-    ∙ ap (λ l. noted_equations y 0 flat.equations (lookup (nat_eq y) l)) (c.in_ok-reserve.ensures.entries ∙ c.clear.ensures.empty))
+    (c.in_ok-note_equations.ensures y ∙ ap (λ l. noted_equations y 0 l (found c.clear.new.self y)) pairs
+    ∙ ap (noted_equations y 0 flat.equations) (c.in_ok-clear.ensures y))
     ∙ ap (λ k. noted_in y k (flat_map names flat.interface) (noted_equations y 0 flat.equations None)) count ∙ noted_after y 0 flat.equations flat.interface None
