@@ -1,3 +1,4 @@
 -- What only contracts of private functions and proofs cite.
 pub mod Hanging
 pub mod ReadBack
+pub mod Named

@@ -1,14 +1,14 @@
 //! Wires: what is joined of two ports, and names that stand at ports.
 
-ghost use Rattle.std.specs.Prelude.{◌≡◌, ◌++◌, IfOk, OnOk};
+ghost use Rattle.std.specs.Prelude.{◌≡◌, ◌++◌, IfOk, OnOk, map};
 ghost use Rattle.ic_nets.specs.Nets.{joints_in, name_wires, plain_wires, standings, joins_names, standings_at, wire_of, wires_at, with_standing};
-ghost use Rattle.indexmap.specs.IndexMap.{values};
+ghost use Rattle.ic_nets.specs.inner.Named.{AreIndexed};
 
 use crate::links::{End, Link, Standing};
 use crate::net::Wire;
 use crate::port::Port;
-use indexmap::IndexMap;
 use std::alloc::{AllocError, Global};
+use std::collections::BTreeMap;
 
 /// The wires between ports that are joined, the ports at which names stand, and how many equations have two names.
 pub(crate) fn parted(
@@ -70,19 +70,36 @@ fn part(
 pub(crate) fn name_wires(alloc: Global, standings: &[Standing]) -> Result<Vec<Wire>, AllocError>
     ensures { IfOk result (λ wires. wires.items ≡ name_wires standings.now) }
 {
-    let mut wires: IndexMap<u64, Wire> = IndexMap::with_capacity(alloc, standings.len())?;
+    let mut wires = Vec::with_capacity(alloc, standings.len())?;
+    let mut places = BTreeMap::new(alloc);
     for standing in standings {
-        add_standing(standing, &mut wires)?;
+        add_standing(standing, &mut wires, &mut places)?;
     }
     values_of(alloc, &wires)
 }
 
-/// Adds to the wires of names that one stands at one more port.
-fn add_standing(standing: &Standing, wires: &mut IndexMap<u64, Wire>) -> Result<(), AllocError>
-    ensures { OnOk result (wires.new.entries ≡ with_standing wires.old.entries standing.now) }
+/// Adds to the wires of names that one stands at one more port. The place of each is found in a tree, so that no names can be
+/// chosen that are slow to find.
+fn add_standing(
+    standing: &Standing,
+    wires: &mut Vec<(u64, Wire)>,
+    places: &mut BTreeMap<u64, usize>,
+) -> Result<(), AllocError>
+    requires { AreIndexed places.old wires.old.items }
+    ensures wires { OnOk result
+        (wires.new.items ≡ with_standing wires.old.items standing.now) }
+    ensures indexed { OnOk result (AreIndexed places.new wires.new.items) }
 {
-    let wire = wire_of(wires.get(&standing.name).copied(), standing);
-    wires.insert(standing.name, wire)?;
+    match places.get(&standing.name).copied() {
+        Some(place) => {
+            let wire = wire_of(Some(wires[place].1), standing);
+            wires[place] = (standing.name, wire);
+        }
+        None => {
+            places.insert(standing.name, wires.len())?;
+            wires.push((standing.name, wire_of(None, standing)))?;
+        }
+    }
     Ok(())
 }
 
@@ -104,12 +121,12 @@ fn wire_of(found: Option<Wire>, standing: &Standing) -> Wire
     }
 }
 
-/// The wires of a map, in its order.
-fn values_of(alloc: Global, wires: &IndexMap<u64, Wire>) -> Result<Vec<Wire>, AllocError>
-    ensures { IfOk result (λ listed. listed.items ≡ values wires.now) }
+/// The wires, without their names.
+fn values_of(alloc: Global, wires: &[(u64, Wire)]) -> Result<Vec<Wire>, AllocError>
+    ensures { IfOk result (λ listed. listed.items ≡ map (λ w. w.1) wires.now) }
 {
     let mut listed = Vec::with_capacity(alloc, wires.len())?;
-    for wire in wires.values() {
+    for (_, wire) in wires {
         listed.push(*wire)?;
     }
     Ok(listed)
