@@ -41,24 +41,26 @@ class ModelTrial(Trial):
                     file.write(part)
             file.truncate(len(disk.content))
 
-    def serve(self, disk, lines, *words, every=100):
+    def serve(self, disk, lines, *words, every=100, page=model_disk.PAGE_WEIGHT):
         """Lines served over the file and over the model's disk, which hold the same. What is answered must be, and then
         stand in the file, as the model says."""
         text = as_lines(lines)
         before = bytes(disk.content)
-        wanted = model_disk.serve(disk, text, every)
+        wanted = model_disk.serve(disk, text, every, page)
+        if page != model_disk.PAGE_WEIGHT:
+            words += "--page-bytes", 1024 * page + 1023
         ran = run("serve", "--disk", self.path, "--every", every, *words, given=text)
         if (ran.out, ran.err, ran.status) != wanted:
-            self.tell_line(ran, wanted, model_disk.Disk(before), text, every)
+            self.tell_line(ran, wanted, model_disk.Disk(before), text, every, page)
             self.agree(ran, wanted)
         self.same_file(ran.command, disk)
         return wanted
 
-    def tell_line(self, ran, wanted, disk, text, every):
+    def tell_line(self, ran, wanted, disk, text, every, page):
         """Fails with the first line that is answered otherwise, where there is one."""
         if wanted.status == 3 or ran.status == 3:
             return
-        answers, server = ran.out.split(b"\n"), model_disk.Server(disk, every)
+        answers, server = ran.out.split(b"\n"), model_disk.Server(disk, every, page)
         for place, line in enumerate(model_disk.lines_of(text), 1):
             try:
                 answer = server.answer(line)

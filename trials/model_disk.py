@@ -229,10 +229,10 @@ class Disk:
 
 class Server:
     """Answers lines over a disk that it opens. What a line changes is kept before it is answered, and in a run after each
-    so many rounds."""
+    so many rounds. A page of its history has entries of such a weight before the next begins."""
 
-    def __init__(self, disk, every=100):
-        self.disk, self.every = disk, every
+    def __init__(self, disk, every=100, page=PAGE_WEIGHT):
+        self.disk, self.every, self.page = disk, every, page
         self.table = disk.open()
         self.entries = self.kept = self.weight = 0
 
@@ -243,7 +243,7 @@ class Server:
 
     def make_room(self):
         """Begins a new page where the entries of this one weigh too much."""
-        if self.weight >= PAGE_WEIGHT:
+        if self.weight >= self.page:
             self.keep()
             self.entries = self.kept = self.weight = 0
 
@@ -332,10 +332,10 @@ def once(text):
     return Outcome(written([model.printed(rules, after)]))
 
 
-def serve(disk, text, every=100):
+def serve(disk, text, every=100, page=PAGE_WEIGHT):
     """Serves a text over a disk that is left as the program leaves its file."""
     try:
-        server = Server(disk, every)
+        server = Server(disk, every, page)
     except Refusal as refusal:
         return refused(3, refusal)
     answers = []

@@ -173,6 +173,15 @@ class DrawnServing(ModelTrial):
             self.serve(disk, lines, every=drawn.choice([40, 100, 1_000_000]))
         self.serve(disk, ["list"] * 65_535 + ["cancel no", "submit last {}<|>", "list"] + ["run 0"] * 9)
 
+    def test_pages_of_any_size(self):
+        """A page that begins keeps what isn't kept: so the file tells when each began."""
+        drawn = self.draws()
+        for page in (1, 2, 3, 511, 512, 513, 1_024, 1_025):
+            disk, names = self.new_disk(), job_names(drawn, 4)
+            for _ in range(3):
+                lines = session(drawn, names, small_systems(drawn, 4), 40, longest_run=100)
+                self.serve(disk, lines, every=drawn.choice([40, 1_000_000]), page=page)
+
     def test_a_million_lines(self):
         lines = b"list\n" + b"\n" * 499_998 + b"x\n" * 3 + b"\t\n" * 499_997 + b"list\n"
         for more in (b"", b"list\n", b"list", b"\n", b" " * (model.MAX_TEXT + 1)):

@@ -252,6 +252,17 @@ pub const GROUP: Number = Number {
     help: "How many commands that have come are kept at once, from 1 to 64",
 };
 
+/// What the history of a server may take before it is dropped.
+pub const PAGE_BYTES: Number = Number {
+    name: "page-bytes",
+    shown: "N",
+    least: 1_024,
+    most: 67_108_864,
+    default: Some("67108864"),
+    apart: &[],
+    help: "Bytes that its history may take, from 1024 to 67108864",
+};
+
 /// How it is told what is found.
 pub const REPORT: Choice = Choice {
     name: "format",
@@ -525,6 +536,7 @@ const SERVE: &[Argument] = &[
     Argument::Number(WORKERS),
     Argument::Number(EVERY),
     Argument::Number(GROUP),
+    Argument::Number(PAGE_BYTES),
     Argument::Flag(EXPLAIN),
     Argument::Number(WAIT),
 ];

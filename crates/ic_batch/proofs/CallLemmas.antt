@@ -272,13 +272,13 @@ module _ {D : Type 0} {ghosts : Ghosts D} where
 
   module _ (made every : ℕ) (old book : Book D ghosts) (some : 0 < every) (so_far : RoomFor old (table_of book) → HaveMade made every old book) where
     -- at a fault before the next one
-    pub calls_then : (new : Book D ghosts) → table_of new ≡ table_of book → (HasSpare book → keeper_of new ≡ keeper_of book) → RoomFor old (table_of new)
+    pub calls_then : (new : Book D ghosts) → table_of new ≡ table_of book → (HasSpare PAGE_WEIGHT book → keeper_of new ≡ keeper_of book) → RoomFor old (table_of new)
         → ghosts.clock (disk_of new) ≤ ghosts.clock (disk_of old) + 6 * (events_in (table_of old) (table_of new) / every)
     calls_then new same still room =
         let here = so_far (subst (RoomFor old) same room) in
         let less : made ≤ events_in (table_of old) (table_of new) = subst (λ (t : List JobParts). made ≤ events_in (table_of old) t) (sym same) here.few in
         let log = here.log in
-        let spare : HasSpare book = within (weight_of (log_of old)) (weight_of (log_of book)) made (events_in (table_of old) (table_of new)) log less room in
+        let spare : HasSpare PAGE_WEIGHT book = within (weight_of (log_of old)) (weight_of (log_of book)) made (events_in (table_of old) (table_of new)) log less room in
         not_kept (made / every) (events_in (table_of old) (table_of new) / every) (ghosts.clock (disk_of old)) (ghosts.clock (disk_of book)) (ghosts.clock (disk_of book)) (ghosts.clock (disk_of new))
         (more_parts made (events_in (table_of old) (table_of new)) every some less) here.clock refl (clock_same book new (still spare))
       where
@@ -287,7 +287,7 @@ module _ {D : Type 0} {ghosts : Ghosts D} where
 
     -- one more round, and a keep where it is due
     pub made_more : (now : ℕ) (e : Event) (mid new : Book D ghosts) → now ≡ (made + 1) % 2 ^ 64 → events_in (table_of old) (table_of book) + 1 ≤ events_in (table_of old) (table_of mid)
-        → weight e ≡ 1 → (HasSpare book → GoesOn (e ∷ []) book mid) → (HasSpare book → keeper_of mid ≡ keeper_of book)
+        → weight e ≡ 1 → (HasSpare PAGE_WEIGHT book → GoesOn (e ∷ []) book mid) → (HasSpare PAGE_WEIGHT book → keeper_of mid ≡ keeper_of book)
         → table_of new ≡ table_of mid → IsSamePage mid new → ghosts.clock (disk_of new) ≤ ghosts.clock (disk_of mid) + 6 → (now % every ≢ 0 → new ≡ mid)
         → RoomFor old (table_of new) → HaveMade now every old new
     made_more now e mid new is one light goes still same page six stays room =
@@ -297,7 +297,7 @@ module _ {D : Type 0} {ghosts : Ghosts D} where
         let all : RoomFor old (table_of mid) = subst (RoomFor old) same room in
         let here = so_far (less_room a events next_events one all) in
         let next : now ≡ made + 1 = is ∙ no_wrap a made events here.few (whole a events next_events one all) in
-        let spare : HasSpare book = subst (λ (n : ℕ). n < PAGE_WEIGHT) (sym here.log) (one_room a made events next_events here.few one all) in
+        let spare : HasSpare PAGE_WEIGHT book = subst (λ (n : ℕ). n < PAGE_WEIGHT) (sym here.log) (one_room a made events next_events here.few one all) in
         subst (λ (n : ℕ). HaveMade n every old new) (sym next) (record {
           few = subst (λ (t : List JobParts). made + 1 ≤ events_in (table_of old) t) (sym same) (up made events next_events here.few one);
           log = ap weight_of page.log ∙ one_longer e book mid (goes spare) ∙ ap (λ (n : ℕ). weight_of (log_of book) + n) light ∙ more a made (weight_of (log_of book)) here.log;
@@ -327,15 +327,15 @@ module _ {D : Type 0} {ghosts : Ghosts D} where
 
   module _ (old mid : Book D ghosts) (first : length (table_of old) ≤ length (table_of mid)) (so_far : RoomToCome old (table_of mid) → HaveCome old mid) where
     -- one more has come
-    pub come_more : (e : Event) (new : Book D ghosts) → weight e ≡ SYSTEM_WEIGHT → length (table_of new) ≡ length (table_of mid) + 1 → (HasRoom (e ∷ []) mid → GoesOn (e ∷ []) mid new)
-        → (HasSpare mid → keeper_of new ≡ keeper_of mid) → RoomToCome old (table_of new) → HaveCome old new
+    pub come_more : (e : Event) (new : Book D ghosts) → weight e ≡ SYSTEM_WEIGHT → length (table_of new) ≡ length (table_of mid) + 1 → (HasRoom PAGE_WEIGHT (e ∷ []) mid → GoesOn (e ∷ []) mid new)
+        → (HasSpare PAGE_WEIGHT mid → keeper_of new ≡ keeper_of mid) → RoomToCome old (table_of new) → HaveCome old new
     come_more e new weighs longer goes still room =
         let a = weight_of (log_of old) in
         let k = come_to (table_of old) (table_of mid) in
         let next : come_to (table_of old) (table_of new) ≡ k + 1 = one (length (table_of old)) (length (table_of mid)) (length (table_of new)) first longer in
         let all : a + SYSTEM_WEIGHT * (k + 1) < PAGE_WEIGHT = subst (λ (n : ℕ). a + SYSTEM_WEIGHT * n < PAGE_WEIGHT) next room in
         let here = so_far (fewer a k all) in
-        let spare : HasRoom (e ∷ []) mid = spare_one a k (weight_of (log_of mid)) (weight e) (weigh (e ∷ [])) here.log weighs (weigh_first e []) all in
+        let spare : HasRoom PAGE_WEIGHT (e ∷ []) mid = spare_one a k (weight_of (log_of mid)) (weight e) (weigh (e ∷ [])) here.log weighs (weigh_first e []) all in
         record {
           log = one_longer e mid new (goes spare) ∙ ap (λ (n : ℕ). weight_of (log_of mid) + n) weighs ∙ up a k (weight_of (log_of mid)) here.log
               ∙ ap (λ (n : ℕ). a + SYSTEM_WEIGHT * n) (sym next);
@@ -358,7 +358,7 @@ module _ {D : Type 0} {ghosts : Ghosts D} where
         up a k b is = omega (arith, is)
 
     -- it failed, whether it has come or not
-    pub come_or_not : (new : Book D ghosts) → length (table_of mid) ≤ length (table_of new) → (HasSpare mid → keeper_of new ≡ keeper_of mid)
+    pub come_or_not : (new : Book D ghosts) → length (table_of mid) ≤ length (table_of new) → (HasSpare PAGE_WEIGHT mid → keeper_of new ≡ keeper_of mid)
         → RoomToCome old (table_of new) → keeper_of new ≡ keeper_of old
     come_or_not new less still room =
         let a = weight_of (log_of old) in

@@ -21,6 +21,7 @@ use Rattle.ic_book.specs.Book.{table_of}
 use Rattle.ic_serving.specs.Booked.{MakesRound}
 use Rattle.ic_batch.specs.Way.{goes_on}
 use Rattle.ic_batch.proofs.WayLemmas.{runs}
+use Rattle.ic_serving.specs.declared.limits.TheConstants.{PAGE_WEIGHT}
 
 pub running_is : (s : State) → is_running s ≡ true → s ≡ Running
 running_is Running is = refl
@@ -103,7 +104,7 @@ module _ (laws : DueLaws) (most : ℕ) (t : List JobParts) (is_table : IsTable t
 -- the same of a book
 pub made_over : {D : Type 0} {ghosts : Ghosts D} (laws : DueLaws) (most : ℕ) (old new : Book D ghosts) (is_table : IsTable (table_of old)) (place : ℕ)
     → (job : JobParts) × (slice_get (table_of old) place ≡ Some job) × (goes_on most job ≡ true)
-    → (r : Option ℕ) → IfNone r (due (table_of old) place ≡ None) → IfSome r (λ here. MakesRound place here old new)
-    → (here : ℕ) × MakesRound place here old new
+    → (r : Option ℕ) → IfNone r (due (table_of old) place ≡ None) → IfSome r (λ here. MakesRound PAGE_WEIGHT place here old new)
+    → (here : ℕ) × MakesRound PAGE_WEIGHT place here old new
 made_over laws most old new is_table place found None none some = absurd (not_none laws most (table_of old) is_table place found.0 found.1 found.2 none)
 made_over laws most old new is_table place found (Some here) none some = (here, some)

@@ -13,6 +13,7 @@ use Rattle.ic_serving.specs.Parts.{IsPart, IsKeptWithin}
 use Rattle.ic_serving.specs.lemmas.Leaving.{leaves_more, leaves_then}
 use Rattle.ic_batch.specs.Way.{IsKeptOr}
 use Rattle.ic_batch.specs.inner.Staying.{Leads}
+use Rattle.ic_serving.specs.declared.limits.TheConstants.{PAGE_WEIGHT}
 
 -- a table within one event
 pub part_such : (such : List JobParts → Type 0) (t : List JobParts) (e : Event) (u : List JobParts) → such t → such (table_after t e) → IsPart t (e ∷ []) u → such u
@@ -51,7 +52,7 @@ module _ {D : Type 0} {ghosts : Ghosts D} where
 
   -- a command that was begun, or done
   pub leads_begun : (such : List JobParts → Type 0) (old mid new : Book D ghosts) (e : Event) → Leads such old mid → such (table_after (table_of mid) e)
-      → Begins (e ∷ []) mid new → Leaves mid new (IsKeptWithin (table_of mid) (last_kept mid) (e ∷ [])) → Leads such old new
+      → Begins PAGE_WEIGHT (e ∷ []) mid new → Leaves mid new (IsKeptWithin (table_of mid) (last_kept mid) (e ∷ [])) → Leads such old new
   leads_begun such old mid new e first after begins crash = record {
     table = part_such such (table_of mid) e (table_of new) first.table after begins.table;
     kept = within_way such old mid e first after (last_kept new) begins.kept;

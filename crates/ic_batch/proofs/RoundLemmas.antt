@@ -22,6 +22,7 @@ use Rattle.ic_batch.proofs.ComeLemmas.{cannot}
 use Rattle.ic_batch.proofs.JobLemmas.{change, one_named, round_changes}
 use Rattle.ic_batch.proofs.LeadLemmas.{leads_on}
 use Rattle.ic_batch.proofs.WayLemmas.{runs, ways_more}
+use Rattle.ic_serving.specs.declared.limits.TheConstants.{PAGE_WEIGHT}
 
 -- the job at a place goes on
 abbrev pub GoesAt : ℕ → List JobParts → ℕ → Type 0
@@ -38,10 +39,10 @@ pub record OneRound {D : Type 0} {ghosts : Ghosts D} (most : ℕ) (old mid new :
   pub made : IsMade most (table_of mid) (table_of new)
   pub leads : Leads (AreWays most (table_of old)) old new
   pub event : List ℕ
-  pub page : HasSpare mid → GoesOn (Round event ∷ []) mid new
+  pub page : HasSpare PAGE_WEIGHT mid → GoesOn (Round event ∷ []) mid new
 
 pub one_round : {D : Type 0} {ghosts : Ghosts D} (laws : DueLaws) (most : ℕ) (old mid new : Book D ghosts) (t : List JobParts) → t ≡ table_of mid → IsTable t
-    → (place : ℕ) → GoesAt most t place → (r : Option ℕ) → IfNone r (due (table_of mid) place ≡ None) → IfSome r (λ here. MakesRound place here mid new)
+    → (place : ℕ) → GoesAt most t place → (r : Option ℕ) → IfNone r (due (table_of mid) place ≡ None) → IfSome r (λ here. MakesRound PAGE_WEIGHT place here mid new)
     → Leaves mid new (IsKeptOrNow mid) → Leads (AreWays most (table_of old)) old mid → OneRound most old mid new
 one_round laws most old mid new t same table place goes r idle makes crash so_far =
     let is_table = subst IsTable same table in

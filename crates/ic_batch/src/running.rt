@@ -18,7 +18,7 @@ use ic_book::Book;
 use ic_disk::Disk;
 use ic_jobs::{Job, State};
 use ic_pool::Gate;
-use ic_serving::{Makers, ServeFault, count_running, keep_each, make_round};
+use ic_serving::{Makers, PAGE_WEIGHT, ServeFault, count_running, keep_each, make_round};
 use std::alloc::Global;
 use std::sync::Wait;
 use std::thread::Threads;
@@ -96,7 +96,7 @@ pub(crate) fn make_rounds<T: Threads + Wait + Copy + Send + 'static, D: Disk, G:
             return Ok(());
         };
         from = place.saturating_add(1);
-        make_round(rt, alloc, book, place, workers, makers)?;
+        make_round(rt, alloc, book, place, workers, PAGE_WEIGHT, makers)?;
         gate.landed(count_running(book.table().jobs()));
         made = made.wrapping_add(1);
         keep_each(book, made, every)?;

@@ -23,7 +23,7 @@ use crate::jobs::NewJob;
 use ic_book::Book;
 use ic_disk::Disk;
 use ic_jobs::{Command, MAX_JOBS, Table};
-use ic_serving::{ServeFault, keep_all, take_command};
+use ic_serving::{PAGE_WEIGHT, ServeFault, keep_all, take_command};
 use std::alloc::{AllocError, Global};
 
 /// Whether a table has room for those of the jobs that it doesn't have.
@@ -116,7 +116,7 @@ fn take_missing<D: Disk>(
     for new in jobs {
         if is_missing(book.table(), new) {
             let command = submission(alloc, new)?;
-            take_command(alloc, book, command)?;
+            take_command(alloc, book, command, PAGE_WEIGHT)?;
         }
     }
     Ok(())

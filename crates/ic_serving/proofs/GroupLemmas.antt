@@ -97,10 +97,10 @@ kept_then t kept es more u w v is within (inr part) = inr (record {
 })
 
 module _ {D : Type 0} {ghosts : Ghosts D} where
-  pub come_none : (book : Book D ghosts)
+  pub come_none : {limit : ℕ} (book : Book D ghosts)
       → ((file : List ℕ) → LeftSince (ghosts.left (disk_of book)) (ghosts.clock (disk_of book)) file → ghosts.image (disk_of book) file)
       → (IsTrue (ghosts.keeps (disk_of book)) → Within (ghosts.image (disk_of book)) IsMade → Within (ghosts.image (disk_of book)) (HoldsKeptOrAll (start_of book) (log_of book) (kept_of book)))
-      → replay (start_of book) (log_of book) ≡ table_of book → IsByCalls book book → HaveCome [] book book
+      → replay (start_of book) (log_of book) ≡ table_of book → IsByCalls book book → HaveCome limit [] book book
   come_none book images either replayed done = record {
     table = refl;
     kept = inl refl;
@@ -109,7 +109,7 @@ module _ {D : Type 0} {ghosts : Ghosts D} where
         (inl refl) (inr (record { front = []; rest = []; parted = refl; leaves = refl }));
   }
 
-  pub come_same : (es : List Event) (old mid new : Book D ghosts) → HaveCome es old mid → IsUnchanged mid new → IsByCalls mid new → HaveCome es old new
+  pub come_same : {limit : ℕ} (es : List Event) (old mid new : Book D ghosts) → HaveCome limit es old mid → IsUnchanged mid new → IsByCalls mid new → HaveCome limit es old new
   come_same es old mid new c u done =
       let same : last_kept new ≡ last_kept mid = kept_same (start_of mid) (start_of new) (log_of mid) (log_of new) (kept_of mid) (kept_of new) u.same_start u.same_log u.same_kept in
       record {
@@ -119,15 +119,15 @@ module _ {D : Type 0} {ghosts : Ghosts D} where
         crash = leaves_still old mid new (IsKeptWithin (table_of old) (last_kept old) es) c.crash u.same_keeper done;
       }
 
-  pub come_then : (es more : List Event) (old mid new : Book D ghosts) → HaveCome es old mid → HaveCome more mid new → HaveCome (es ++ more) old new
-  come_then es more old mid new a b = record {
+  pub come_then : {limit : ℕ} (es more : List Event) (old mid new : Book D ghosts) → HaveCome limit es old mid → HaveCome limit more mid new → HaveCome limit (es ++ more) old new
+  come_then {limit} es more old mid new a b = record {
     table = b.table ∙ ap (λ (y : List JobParts). after_events y more) a.table ∙ sym (fold-append table_after (table_of old) es more);
     kept = kept_then (table_of old) (last_kept old) es more (table_of mid) (last_kept mid) (last_kept new) a.table a.kept b.kept;
     page = λ room.
         let both = weigh_both es more in
-        let first : HasRoom es old = room_both (weight_of (log_of old)) (weigh (es ++ more)) (weigh es) (weigh more) room both in
+        let first : HasRoom limit es old = room_both (weight_of (log_of old)) (weigh (es ++ more)) (weigh es) (weigh more) room both in
         let goes = a.page first in
-        let second : HasRoom more mid =
+        let second : HasRoom limit more mid =
         room_then (weight_of (log_of old)) (weigh (es ++ more)) (weigh es) (weigh more) (weight_of (log_of mid)) room both (weighs_after es old mid goes) in
         goes_then es more old mid new goes (b.page second);
     crash = leaves_then old mid new (IsKeptWithin (table_of old) (last_kept old) (es ++ more)) (IsKeptWithin (table_of mid) (last_kept mid) more)
@@ -137,7 +137,7 @@ module _ {D : Type 0} {ghosts : Ghosts D} where
   }
 
   -- they are begun
-  pub come_begins : (es : List Event) (old new : Book D ghosts) → HaveCome es old new → Begins es old new
+  pub come_begins : {limit : ℕ} (es : List Event) (old new : Book D ghosts) → HaveCome limit es old new → Begins limit es old new
   come_begins es old new c = record {
     table = record { front = es; rest = []; parted = sym (append-nil es); leaves = c.table };
     kept = c.kept;
@@ -145,8 +145,8 @@ module _ {D : Type 0} {ghosts : Ghosts D} where
   }
 
   -- a keep comes after them, or is refused
-  pub come_kept : (es : List Event) (old mid new : Book D ghosts) → HaveCome es old mid → table_of new ≡ table_of mid
-      → (last_kept new ≡ last_kept mid) ⊎ (last_kept new ≡ table_of mid) → IsSamePage mid new → Leaves mid new (IsKeptOrNow mid) → HaveCome es old new
+  pub come_kept : {limit : ℕ} (es : List Event) (old mid new : Book D ghosts) → HaveCome limit es old mid → table_of new ≡ table_of mid
+      → (last_kept new ≡ last_kept mid) ⊎ (last_kept new ≡ table_of mid) → IsSamePage mid new → Leaves mid new (IsKeptOrNow mid) → HaveCome limit es old new
   come_kept es old mid new c table kept same step = record {
     table = table ∙ c.table;
     kept = kept_or_all (table_of old) (last_kept old) es (table_of mid) (last_kept mid) (last_kept new) c.table c.kept kept;
@@ -156,7 +156,7 @@ module _ {D : Type 0} {ghosts : Ghosts D} where
   }
 
   -- a command is taken
-  pub come_taken : (command : Command) (reply : Reply) (book new : Book D ghosts)
+  pub come_taken : {limit : ℕ} (command : Command) (reply : Reply) (book new : Book D ghosts)
       → ((file : List ℕ) → LeftSince (ghosts.left (disk_of book)) (ghosts.clock (disk_of book)) file → ghosts.image (disk_of book) file)
       → (IsTrue (ghosts.keeps (disk_of book)) → Within (ghosts.image (disk_of book)) IsMade → Within (ghosts.image (disk_of book)) (HoldsKeptOrAll (start_of book) (log_of book) (kept_of book)))
       → replay (start_of book) (log_of book) ≡ table_of book → IsByCalls book book → kept_of book ≤ length (log_of book)
@@ -164,9 +164,9 @@ module _ {D : Type 0} {ghosts : Ghosts D} where
       → ghosts.keeps (disk_of new) ≡ ghosts.keeps (disk_of book) → (IsTrue (ghosts.keeps (disk_of book)) → Within (ghosts.image (disk_of book)) IsMade → Within (ghosts.image (disk_of new)) IsMade)
       → (IsTrue (ghosts.keeps (disk_of book)) → Within (ghosts.image (disk_of book)) IsMade
       → LeavesOnly ghosts.clock ghosts.left (disk_of book) (disk_of new) (HoldsKeptOrAll (start_of book) (log_of new) (kept_of book)))
-      → HaveCome (by_command command ∷ []) book new
-  come_taken command reply book new images either replayed done within replayed_new is keeps made run =
-      let put : StaysPut book book = record { table = refl; kept = inl refl; page = λ room. record { start = refl; log = refl } } in
+      → HaveCome limit (by_command command ∷ []) book new
+  come_taken {limit} command reply book new images either replayed done within replayed_new is keeps made run =
+      let put : StaysPut limit book book = record { table = refl; kept = inl refl; page = λ room. record { start = refl; log = refl } } in
       let idle = leaves_nothing book (IsKeptOrNow book) images either replayed done (inl refl) (inr refl) in
       let goes = taken_goes command reply book new is in
       record {
@@ -223,8 +223,8 @@ module _ {D : Type 0} {ghosts : Ghosts D} where
 
   -- ---- of lines that were ready
 
-  pub ready_none : (well : Bool) (buffer : BufferParts) (said : List ℕ) (count : ℕ) (old new : Book D ghosts) → HaveCome [] old new → keeper_of new ≡ keeper_of old
-      → unkept_of new ≤ unkept_of old → TakesReady 0 well buffer buffer said said count count old new
+  pub ready_none : {limit : ℕ} (well : Bool) (buffer : BufferParts) (said : List ℕ) (count : ℕ) (old new : Book D ghosts) → HaveCome limit [] old new → keeper_of new ≡ keeper_of old
+      → unkept_of new ≤ unkept_of old → TakesReady limit 0 well buffer buffer said said count count old new
   ready_none well buffer said count old new come keeper unkept = record {
     commands = [];
     ls = [];
@@ -238,8 +238,8 @@ module _ {D : Type 0} {ghosts : Ghosts D} where
     taken = λ is. ([], sym (append-nil said), (refl, come.table, come.crash.done));
   }
 
-  pub ready_more : (m n : ℕ) (b w : Bool) (before after : BufferParts) (x y : List ℕ) (k l : ℕ) (old new : Book D ghosts) → TakesReady m b before after x y k l old new
-      → m ≤ n → (w ≡ true → b ≡ true) → TakesReady n w before after x y k l old new
+  pub ready_more : {limit : ℕ} (m n : ℕ) (b w : Bool) (before after : BufferParts) (x y : List ℕ) (k l : ℕ) (old new : Book D ghosts) → TakesReady limit m b before after x y k l old new
+      → m ≤ n → (w ≡ true → b ≡ true) → TakesReady limit n w before after x y k l old new
   ready_more m n b w before after x y k l old new r more well = record {
     commands = r.commands;
     ls = r.ls;
@@ -253,15 +253,15 @@ module _ {D : Type 0} {ghosts : Ghosts D} where
     taken = λ is. r.taken (well is);
   }
 
-  pub ready_then : (m n : ℕ) (w : Bool) (a b c : BufferParts) (x y z : List ℕ) (k l n' : ℕ) (old mid new : Book D ghosts) → TakesReady m true a b x y k l old mid
-      → TakesReady n w b c y z l n' mid new → TakesReady (m + n) w a c x z k n' old new
-  ready_then m n w a b c x y z k l n' old mid new r s = record {
+  pub ready_then : {limit : ℕ} (m n : ℕ) (w : Bool) (a b c : BufferParts) (x y z : List ℕ) (k l n' : ℕ) (old mid new : Book D ghosts) → TakesReady limit m true a b x y k l old mid
+      → TakesReady limit n w b c y z l n' mid new → TakesReady limit (m + n) w a c x z k n' old new
+  ready_then {limit} m n w a b c x y z k l n' old mid new r s = record {
     commands = r.commands ++ s.commands;
     ls = r.ls ++ s.ls;
     asks = asks_then r.ls s.ls r.commands s.commands r.asks s.asks;
     took = passed_then r.ls s.ls a b c r.took s.took;
     few = (let p = r.few in let q = s.few in omega (arith, p, q, length-append r.ls s.ls));
-    come = subst (λ (es : List Event). HaveCome es old new) (sym (map-append by_command r.commands s.commands))
+    come = subst (λ (es : List Event). HaveCome limit es old new) (sym (map-append by_command r.commands s.commands))
         (come_then (asked r.commands) (asked s.commands) old mid new r.come s.come);
     keeper = s.keeper ∙ r.keeper;
     unkept = (let p = r.unkept in let q = s.unkept in omega (arith, p, q, length-append r.ls s.ls));
@@ -276,11 +276,11 @@ module _ {D : Type 0} {ghosts : Ghosts D} where
   }
 
   -- one that is taken
-  pub ready_one : (well : Bool) (command : Command) (line : List ℕ) (before after : BufferParts) (said said_then : List ℕ) (count count_then : ℕ) (old new : Book D ghosts)
+  pub ready_one : {limit : ℕ} (well : Bool) (command : Command) (line : List ℕ) (before after : BufferParts) (said said_then : List ℕ) (count count_then : ℕ) (old new : Book D ghosts)
       → ReadsLine line (Ok (Asks command)) → ((text : Option (List ℕ)) → TakesLine line (to_come before text) (to_come after text)) → length line ≤ MAX_TEXT
-      → HaveCome (by_command command ∷ []) old new → keeper_of new ≡ keeper_of old → unkept_of new ≤ unkept_of old + 1
+      → HaveCome limit (by_command command ∷ []) old new → keeper_of new ≡ keeper_of old → unkept_of new ≤ unkept_of old + 1
       → (well ≡ true → (count_then ≡ count + 1) × ((own : List ℕ) × (said_then ≡ said ++ own) × IsTaken command own old new)) → IsByCalls new new
-      → TakesReady 1 well before after said said_then count count_then old new
+      → TakesReady limit 1 well before after said said_then count count_then old new
   ready_one well command line before after said said_then count count_then old new reads taking short come keeper unkept done idle = record {
     commands = command ∷ [];
     ls = line ∷ [];

@@ -39,8 +39,8 @@ group_within law some most t kept line ls c cs less reads asks u (inr part) = in
 
 module _ {D : Type 0} {ghosts : Ghosts D} where
   module _ (law : Joined) (some : SomeWay) (most : ℕ) (before after : BufferParts) (old new : Book D ghosts) where
-    done_answered : (first : Command) (bytes : List ℕ) (count : ℕ) → ReadsLine before.line (Ok (Asks first)) → IsGroupDone most first before after bytes count old new
-        → IsAllKept new → is_broken new ≡ false → IsNextAnswered most before after bytes count old new
+    done_answered : {limit : ℕ} (first : Command) (bytes : List ℕ) (count : ℕ) → ReadsLine before.line (Ok (Asks first)) → IsGroupDone limit most first before after bytes count old new
+        → IsAllKept new → is_broken new ≡ false → IsNextAnswered limit most before after bytes count old new
     done_answered first bytes count reads d all whole =
         let served = taken_out (first ∷ d.commands) bytes old d.between d.taken in
         let counted = d.counted in
@@ -75,16 +75,16 @@ module _ {D : Type 0} {ghosts : Ghosts D} where
               (group_within law some most (table_of old) (last_kept old) before.line d.ls first d.commands (omega (arith, counted, few)) reads d.asks);
         }
 
-    pub group_answered : {V : Type 0} (first : Command) (r : Result V ServeFault) (items : V → List ℕ) (count : V → ℕ) → ReadsLine before.line (Ok (Asks first))
-        → IfOk r (λ v. IsGroupDone most first before after (items v) (count v) old new) → OnOk r (IsAllKept new) → OnOk r (is_broken new ≡ false)
-        → IfOk r (λ v. IsNextAnswered most before after (items v) (count v) old new)
-    group_answered first (Ok v) items count reads done all whole = done_answered first (items v) (count v) reads done all whole
-    group_answered first (Err e) items count reads done all whole = tt
+    pub group_answered : {V : Type 0} (limit : ℕ) (first : Command) (r : Result V ServeFault) (items : V → List ℕ) (count : V → ℕ) → ReadsLine before.line (Ok (Asks first))
+        → IfOk r (λ v. IsGroupDone limit most first before after (items v) (count v) old new) → OnOk r (IsAllKept new) → OnOk r (is_broken new ≡ false)
+        → IfOk r (λ v. IsNextAnswered limit most before after (items v) (count v) old new)
+    group_answered limit first (Ok v) items count reads done all whole = done_answered first (items v) (count v) reads done all whole
+    group_answered limit first (Err e) items count reads done all whole = tt
 
-    pub group_begun : {V : Type 0} (first : Command) (r : Result V ServeFault) → ReadsLine before.line (Ok (Asks first)) → OnErr r (IsGroupBegun most first before after old new)
+    pub group_begun : {V : Type 0} (limit : ℕ) (first : Command) (r : Result V ServeFault) → ReadsLine before.line (Ok (Asks first)) → OnErr r (IsGroupBegun limit most first before after old new)
         → IfErr r ComesWithoutRound → IfErr r (λ fault. IsNextBegun most before after fault old new)
-    group_begun first (Ok v) reads begun comes = tt
-    group_begun first (Err e) reads b comes =
+    group_begun limit first (Ok v) reads begun comes = tt
+    group_begun limit first (Err e) reads b comes =
         let within = group_within law some most (table_of old) (last_kept old) before.line b.ls first b.commands b.few reads b.asks in
         record {
           more = b.ls;
@@ -103,8 +103,8 @@ module _ {D : Type 0} {ghosts : Ghosts D} where
         (λ u. (u ≡ last_kept old) ⊎ IsInFew most (table_of old) (lines.line ∷ []) u) crash
         (line_within most (table_of old) (last_kept old) lines.line r one reads)
 
-    pub one_answered : (bytes : List ℕ) → IsAnsweredAs r bytes old new → Leaves old new (IsKeptWithin (table_of old) (last_kept old) (events (table_of old) r))
-        → IsNextAnswered most lines lines bytes 1 old new
+    pub one_answered : {limit : ℕ} (bytes : List ℕ) → IsAnsweredAs limit r bytes old new → Leaves old new (IsKeptWithin (table_of old) (last_kept old) (events (table_of old) r))
+        → IsNextAnswered limit most lines lines bytes 1 old new
     one_answered bytes is crash = record {
       more = [];
       took = passed_none lines;
@@ -116,7 +116,7 @@ module _ {D : Type 0} {ghosts : Ghosts D} where
       crash = line_crash crash;
     }
 
-    pub one_begun : (fault : ServeFault) → Begins (events (table_of old) r) old new → ComesFor (table_of old) r (table_of new) fault
+    pub one_begun : {limit : ℕ} (fault : ServeFault) → Begins limit (events (table_of old) r) old new → ComesFor (table_of old) r (table_of new) fault
         → Leaves old new (IsKeptWithin (table_of old) (last_kept old) (events (table_of old) r)) → IsNextBegun most lines lines fault old new
     one_begun fault begun comes crash = record {
       more = [];

@@ -19,7 +19,6 @@ use Rattle.ic_book.specs.Weight.{weigh, weight_of}
 use Rattle.ic_book.specs.lemmas.Weights.{weigh_both, weigh_on}
 use Rattle.ic_lines.specs.Turns.{turns}
 use Rattle.ic_serving.specs.Booked.{last_kept, Advances, MakesRound, StaysPut}
-use Rattle.ic_serving.specs.declared.limits.TheConstants.{PAGE_WEIGHT}
 use Rattle.ic_serving.specs.Grown.{IsSamePage, GoesOn, GoesOnWithin, HasRoom, HasSpare}
 use Rattle.ic_serving.proofs.RunLemmas.{turns_step}
 
@@ -29,19 +28,19 @@ senders_both (e ∷ es) b p q = (p.0, senders_both es b p.1 q)
 
 -- ---- room, in numbers
 
-spare : (log more : ℕ) → log + more < PAGE_WEIGHT → log < PAGE_WEIGHT
+spare : {limit : ℕ} (log more : ℕ) → log + more < limit → log < limit
 spare log more room = omega (arith, room)
 
-left_over : (old all front rest log : ℕ) → old + all < PAGE_WEIGHT → log ≡ old + front → all ≡ front + rest → log < PAGE_WEIGHT
+left_over : {limit : ℕ} (old all front rest log : ℕ) → old + all < limit → log ≡ old + front → all ≡ front + rest → log < limit
 left_over old all front rest log room grown sum = omega (arith, room, grown, sum)
 
-pub room_both : (old all front rest : ℕ) → old + all < PAGE_WEIGHT → all ≡ front + rest → old + front < PAGE_WEIGHT
+pub room_both : {limit : ℕ} (old all front rest : ℕ) → old + all < limit → all ≡ front + rest → old + front < limit
 room_both old all front rest room sum = omega (arith, room, sum)
 
-pub room_then : (old all front rest log : ℕ) → old + all < PAGE_WEIGHT → all ≡ front + rest → log ≡ old + front → log + rest < PAGE_WEIGHT
+pub room_then : {limit : ℕ} (old all front rest log : ℕ) → old + all < limit → all ≡ front + rest → log ≡ old + front → log + rest < limit
 room_then old all front rest log room sum grown = omega (arith, room, sum, grown)
 
-pub one_more : (old more new : ℕ) → old < PAGE_WEIGHT → new ≡ old + more → new < PAGE_WEIGHT + more
+pub one_more : {limit : ℕ} (old more new : ℕ) → old < limit → new ≡ old + more → new < limit + more
 one_more old more new room grown = omega (arith, room, grown)
 
 -- ---- pages
@@ -90,7 +89,7 @@ module _ {D : Type 0} {ghosts : Ghosts D} where
   same_then old mid new same start log = record { start = start ∙ same.start; log = log ∙ same.log }
 
   -- a command, after a page that stays
-  pub one_room : (book : Book D ghosts) (c : Command) → HasRoom (by_command c ∷ []) book → HasSpare book
+  pub one_room : {limit : ℕ} (book : Book D ghosts) (c : Command) → HasRoom limit (by_command c ∷ []) book → HasSpare limit book
   one_room book c room = spare (weight_of (log_of book)) (weigh (by_command c ∷ [])) room
 
   pub command_goes : (c : Command) (reply : Reply) (old mid new : Book D ghosts) → IsSamePage old mid → start_of new ≡ start_of mid
@@ -103,14 +102,14 @@ module _ {D : Type 0} {ghosts : Ghosts D} where
   weighs_after es old new goes = weigh_on (log_of old) (log_of new) goes.entries es goes.log goes.events
 
   -- where there is room for all events, there is room after a front of them
-  pub room_after : (all front rest : List Event) (old book : Book D ghosts) → all ≡ front ++ rest → HasRoom all old → GoesOn front old book → HasSpare book
+  pub room_after : {limit : ℕ} (all front rest : List Event) (old book : Book D ghosts) → all ≡ front ++ rest → HasRoom limit all old → GoesOn front old book → HasSpare limit book
   room_after all front rest old book parted room goes =
       left_over (weight_of (log_of old)) (weigh all) (weigh front) (weigh rest) (weight_of (log_of book)) room (weighs_after front old book goes) (ap weigh parted ∙ weigh_both front rest)
 
   -- a round was made after a page that was begun or stays
-  pub makes_round : (after place : ℕ) (old mid new : Book D ghosts) (f : FlightParts) (reply : Reply) → due (table_of old) after ≡ Some f → place ≡ f.place
-      → StaysPut old mid → Advances (Round f.name) mid new → start_of new ≡ start_of mid → log_of new ≡ log_of mid ++ round_entry f.name reply ∷ []
-      → MakesRound after place old new
+  pub makes_round : {limit : ℕ} (after place : ℕ) (old mid new : Book D ghosts) (f : FlightParts) (reply : Reply) → due (table_of old) after ≡ Some f → place ≡ f.place
+      → StaysPut limit old mid → Advances (Round f.name) mid new → start_of new ≡ start_of mid → log_of new ≡ log_of mid ++ round_entry f.name reply ∷ []
+      → MakesRound limit after place old new
   makes_round after place old mid new f reply is_due here stays advances start log = record {
     flight = f;
     is_due = is_due;
@@ -128,26 +127,26 @@ module _ {D : Type 0} {ghosts : Ghosts D} where
   -- ---- a run
 
   -- so many rounds of a run stand in the page, and the next is due from this place on
-  pub record PageInRun (count made place : ℕ) (first book : Book D ghosts) : Type 0 where
+  pub record PageInRun (limit count made place : ℕ) (first book : Book D ghosts) : Type 0 where
     pub events : List Event
     pub parted : turns count 0 (table_of first) ≡ events ++ turns (count - made) place (table_of book)
-    pub goes : HasRoom (turns count 0 (table_of first)) first → GoesOn events first book
+    pub goes : HasRoom limit (turns count 0 (table_of first)) first → GoesOn events first book
 
-  pub page_first : (count : ℕ) (book : Book D ghosts) → PageInRun count 0 0 book book
+  pub page_first : {limit : ℕ} (count : ℕ) (book : Book D ghosts) → PageInRun limit count 0 0 book book
   page_first count book = record {
     events = [];
     parted = (let same : count ≡ count - 0 = omega arith in ap (λ n. turns n 0 (table_of book)) same);
     goes = λ room. goes_none book;
   }
 
-  module _ (count made place : ℕ) (first book : Book D ghosts) (p : PageInRun count made place first book) where
-    pub left : HasRoom (turns count 0 (table_of first)) first → HasSpare book
+  module _ {limit : ℕ} (count made place : ℕ) (first book : Book D ghosts) (p : PageInRun limit count made place first book) where
+    pub left : HasRoom limit (turns count 0 (table_of first)) first → HasSpare limit book
     left room = room_after (turns count 0 (table_of first)) p.events (turns (count - made) place (table_of book)) first book p.parted room (p.goes room)
 
     -- one round more, after which the page stays
     pub page_more : (f : FlightParts) (mid new : Book D ghosts) → made < count → due (table_of book) place ≡ Some f → table_of mid ≡ table_after (table_of book) (Round f.name)
-        → (HasSpare book → GoesOn (Round f.name ∷ []) book mid) → table_of new ≡ table_of mid → IsSamePage mid new
-        → PageInRun count (made + 1) (f.place + 1) first new
+        → (HasSpare limit book → GoesOn (Round f.name ∷ []) book mid) → table_of new ≡ table_of mid → IsSamePage mid new
+        → PageInRun limit count (made + 1) (f.place + 1) first new
     page_more f mid new less is moved one table same =
         let next = turns_step count made place (table_of book) (table_of new) f less is (table ∙ moved) in
         record {
@@ -158,14 +157,14 @@ module _ {D : Type 0} {ghosts : Ghosts D} where
         }
 
     -- the run is over
-    pub page_whole : (new : Book D ghosts) → turns (count - made) place (table_of book) ≡ [] → IsSamePage book new → HasRoom (turns count 0 (table_of first)) first
+    pub page_whole : (new : Book D ghosts) → turns (count - made) place (table_of book) ≡ [] → IsSamePage book new → HasRoom limit (turns count 0 (table_of first)) first
         → GoesOn (turns count 0 (table_of first)) first new
     page_whole new none same room =
         let all : turns count 0 (table_of first) ≡ p.events = p.parted ∙ ap (λ (xs : List Event). p.events ++ xs) none ∙ append-nil p.events in
         subst (λ (es : List Event). GoesOn es first new) (sym all) (goes_same p.events first book new (p.goes room) same)
 
     -- a fault came
-    pub page_within : (new : Book D ghosts) → (HasSpare book → IsSamePage book new) → HasRoom (turns count 0 (table_of first)) first
+    pub page_within : (new : Book D ghosts) → (HasSpare limit book → IsSamePage book new) → HasRoom limit (turns count 0 (table_of first)) first
         → GoesOnWithin (turns count 0 (table_of first)) first new
     page_within new stays room =
         subst (λ (es : List Event). GoesOnWithin es first new) (sym p.parted)

@@ -30,24 +30,24 @@ use Rattle.ic_serving.specs.lemmas.Leaving.{leaves_more}
 pub nothing_come : (t kept : List JobParts) (es : List Event) → IsKeptWithin t kept es t
 nothing_come t kept es = inr (record { front = []; rest = es; parted = refl; leaves = refl })
 
-pub nothing_begun : {D : Type 0} {ghosts : Ghosts D} (book : Book D ghosts) (es : List Event) → Begins es book book
+pub nothing_begun : {limit : ℕ} {D : Type 0} {ghosts : Ghosts D} (book : Book D ghosts) (es : List Event) → Begins limit es book book
 nothing_begun book es =
     let b = begun_none (table_of book) (last_kept book) es (table_of book) (last_kept book) refl (inl refl) in
     record { table = b.0; kept = b.1; page = λ room. within_none es book book (record { start = refl; log = refl }) }
 
 -- a line that can't be read, since memory ran out
-pub no_line_begun : {D V : Type 0} {ghosts : Ghosts D} → SomeWay → (book : Book D ghosts) (line : List ℕ) (result : Result V ServeFault) (fault : ServeFault)
-    → IsErrAnd result (λ x. x ≡ fault) → fault ≡ Memory → IfErr result (λ f. IsBegun line f book book)
-no_line_begun law book line (Ok v) fault is memory = tt
-no_line_begun law book line (Err e) fault is memory =
+pub no_line_begun : {D V : Type 0} {ghosts : Ghosts D} → SomeWay → (limit : ℕ) (book : Book D ghosts) (line : List ℕ) (result : Result V ServeFault) (fault : ServeFault)
+    → IsErrAnd result (λ x. x ≡ fault) → fault ≡ Memory → IfErr result (λ f. IsBegun limit line f book book)
+no_line_begun law limit book line (Ok v) fault is memory = tt
+no_line_begun law limit book line (Err e) fault is memory =
     let equal : e ≡ fault = is in
     let same : e ≡ Memory = equal ∙ memory in
     let r = law line in
     rw same (record { reading = r.0; read = r.1; comes = memory_comes (table_of book) r.0 (table_of book); begun = nothing_begun book (events (table_of book) r.0) })
 
 -- what is said of a reading is so of the line that is read so
-pub line_answered : {D : Type 0} {ghosts : Ghosts D} (line bytes : List ℕ) (r : Reading) (old new : Book D ghosts) → ReadsLine line r → IsAnsweredAs r bytes old new
-    → IsAnswered line bytes old new
+pub line_answered : {limit : ℕ} {D : Type 0} {ghosts : Ghosts D} (line bytes : List ℕ) (r : Reading) (old new : Book D ghosts) → ReadsLine line r → IsAnsweredAs limit r bytes old new
+    → IsAnswered limit line bytes old new
 line_answered line bytes r old new reads is = record {
   reading = r;
   read = reads;
@@ -60,15 +60,15 @@ line_answered line bytes r old new reads is = record {
   done = is.done;
 }
 
-pub if_answered : {D V : Type 0} {ghosts : Ghosts D} (line : List ℕ) (r : Reading) (old new : Book D ghosts) (result : Result V ServeFault) (items : V → List ℕ) → ReadsLine line r
-    → IfOk result (λ v. IsAnsweredAs r (items v) old new) → IfOk result (λ v. IsAnswered line (items v) old new)
-if_answered line r old new (Ok v) items reads is = line_answered line (items v) r old new reads is
-if_answered line r old new (Err e) items reads is = tt
+pub if_answered : {D V : Type 0} {ghosts : Ghosts D} (limit : ℕ) (line : List ℕ) (r : Reading) (old new : Book D ghosts) (result : Result V ServeFault) (items : V → List ℕ) → ReadsLine line r
+    → IfOk result (λ v. IsAnsweredAs limit r (items v) old new) → IfOk result (λ v. IsAnswered limit line (items v) old new)
+if_answered limit line r old new (Ok v) items reads is = line_answered line (items v) r old new reads is
+if_answered limit line r old new (Err e) items reads is = tt
 
-pub if_begun : {D V : Type 0} {ghosts : Ghosts D} (line : List ℕ) (r : Reading) (old new : Book D ghosts) (result : Result V ServeFault) → ReadsLine line r
-    → OnErr result (Begins (events (table_of old) r) old new) → IfErr result (ComesFor (table_of old) r (table_of new)) → IfErr result (λ fault. IsBegun line fault old new)
-if_begun line r old new (Ok v) reads begun comes = tt
-if_begun line r old new (Err e) reads begun comes = record { reading = r; read = reads; comes = comes; begun = begun }
+pub if_begun : {D V : Type 0} {ghosts : Ghosts D} (limit : ℕ) (line : List ℕ) (r : Reading) (old new : Book D ghosts) (result : Result V ServeFault) → ReadsLine line r
+    → OnErr result (Begins limit (events (table_of old) r) old new) → IfErr result (ComesFor (table_of old) r (table_of new)) → IfErr result (λ fault. IsBegun limit line fault old new)
+if_begun limit line r old new (Ok v) reads begun comes = tt
+if_begun limit line r old new (Err e) reads begun comes = record { reading = r; read = reads; comes = comes; begun = begun }
 
 pub leaves_in_line : {D : Type 0} {ghosts : Ghosts D} (line : List ℕ) (r : Reading) (old new : Book D ghosts) → ReadsLine line r
     → Leaves old new (IsKeptWithin (table_of old) (last_kept old) (events (table_of old) r)) → Leaves old new (IsKeptInLine (table_of old) (last_kept old) line)

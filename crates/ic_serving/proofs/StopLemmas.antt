@@ -129,7 +129,7 @@ module _ {D : Type 0} {ghosts : Ghosts D} where
   }
 
   -- a command that stands in the book
-  pub leaves_command : (old mid new : Book D ghosts) (c : Command) (r : Reply) → Leaves old mid (IsKeptOrNow old) → StaysPut old mid
+  pub leaves_command : {limit : ℕ} (old mid new : Book D ghosts) (c : Command) (r : Reply) → Leaves old mid (IsKeptOrNow old) → StaysPut limit old mid
       → replay (start_of mid) (log_of mid) ≡ table_of mid → kept_of mid ≤ length (log_of mid)
       → AddsCommand 0 c r (log_of mid) (log_of new) (table_of mid) (table_of new)
       → ghosts.keeps (disk_of new) ≡ ghosts.keeps (disk_of mid) → (IsTrue (ghosts.keeps (disk_of mid)) → Within (ghosts.image (disk_of mid)) IsMade → Within (ghosts.image (disk_of new)) IsMade)
@@ -166,17 +166,17 @@ module _ {D : Type 0} {ghosts : Ghosts D} where
   LeavesServed first new ls = Leaves first new (MayStand (IsAllKept first) (last_kept first) (table_of first) ls)
 
   -- groups of lines were answered in turn, each of at most so many
-  pub record InGroups (most : ℕ) (front : List (List ℕ)) (first book : Book D ghosts) : Type 0 where
+  pub record InGroups (limit most : ℕ) (front : List (List ℕ)) (first book : Book D ghosts) : Type 0 where
     pub groups : List (List (List ℕ))
     pub parted : front ≡ flat_map (λ (group : List (List ℕ)). group) groups
     pub small : AllByRecursion (λ (group : List (List ℕ)). length group ≤ most) groups
-    pub answered : AreAnsweredInTurn groups first book
+    pub answered : AreAnsweredInTurn limit groups first book
 
-  pub groups_first : (most : ℕ) (book : Book D ghosts) → InGroups most [] book book
+  pub groups_first : {limit : ℕ} (most : ℕ) (book : Book D ghosts) → InGroups limit most [] book book
   groups_first most book = record { groups = []; parted = refl; small = tt; answered = refl }
 
-  pub groups_more : (most : ℕ) (front ls : List (List ℕ)) (bytes : List ℕ) (first book new : Book D ghosts) → InGroups most front first book → length ls ≤ most
-      → AreAnsweredAtOnce ls bytes book new → InGroups most (front ++ ls) first new
+  pub groups_more : {limit : ℕ} (most : ℕ) (front ls : List (List ℕ)) (bytes : List ℕ) (first book new : Book D ghosts) → InGroups limit most front first book → length ls ≤ most
+      → AreAnsweredAtOnce limit ls bytes book new → InGroups limit most (front ++ ls) first new
   groups_more most front ls bytes first book new g small is = record {
     groups = g.groups ++ ls ∷ [];
     parted = ap (λ (xs : List (List ℕ)). xs ++ ls) g.parted ∙ flat_more g.groups ls;
@@ -185,7 +185,7 @@ module _ {D : Type 0} {ghosts : Ghosts D} where
   }
 
   -- some lines were served, so many more may be, and what a crash leaves since the first book
-  pub record Serves (most : ℕ) (text rest : Option (List ℕ)) (count left : ℕ) (first book : Book D ghosts) (old new : Option (List ℕ)) : Type 0 where
+  pub record Serves (limit most : ℕ) (text rest : Option (List ℕ)) (count left : ℕ) (first book : Book D ghosts) (old new : Option (List ℕ)) : Type 0 where
     pub way : IsUnderWay text rest left (table_of first) (table_of book) old new
     pub steps : count ≤ length way.front
     pub kept : IsAllKept first → IsAllKept book
@@ -193,7 +193,7 @@ module _ {D : Type 0} {ghosts : Ghosts D} where
     pub ready : is_broken first ≡ false → is_broken book ≡ false
     pub broken : is_broken first ≡ true → is_broken book ≡ true
     pub last : IsAllKept book ⊎ (last_kept book ≡ last_kept first)
-    pub turns : InGroups most way.front first book
+    pub turns : InGroups limit most way.front first book
     pub moments : LeavesServed first book way.front
 
   pub stops_first : SomeWay → (book : Book D ghosts)
@@ -215,8 +215,8 @@ module _ {D : Type 0} {ghosts : Ghosts D} where
   abbrev pub IsKeptInFew : (most : ℕ) (book : Book D ghosts) → List (List ℕ) → List JobParts → Type 0
   IsKeptInFew most book ls u = (u ≡ last_kept book) ⊎ IsInFew most (table_of book) ls u
 
-  pub stops_more : Joined → SomeWay → (most n : ℕ) (text rest : Option (List ℕ)) (count left : ℕ) (first book new : Book D ghosts) (old mid : Option (List ℕ)) (ls more : List (List ℕ))
-      → (s : Serves most text rest count left first book old mid) → 1 ≤ n → n ≤ left → AllByRecursion (λ line. length line ≤ MAX_TEXT) ls
+  pub stops_more : {limit : ℕ} → Joined → SomeWay → (most n : ℕ) (text rest : Option (List ℕ)) (count left : ℕ) (first book new : Book D ghosts) (old mid : Option (List ℕ)) (ls more : List (List ℕ))
+      → (s : Serves limit most text rest count left first book old mid) → 1 ≤ n → n ≤ left → AllByRecursion (λ line. length line ≤ MAX_TEXT) ls
       → (IsAllKept book → last_kept book ≡ table_of book) → Leaves book new (IsKeptInFew n book ls) → LeavesServed first new (s.way.front ++ (ls ++ more))
   stops_more joined law most n text rest count left first book new old mid ls more s one few short whole step =
       leaves_then first book new (MayStand (IsAllKept first) (last_kept first) (table_of first) (s.way.front ++ (ls ++ more))) (IsKeptInFew n book ls)
@@ -248,15 +248,15 @@ module _ {D : Type 0} {ghosts : Ghosts D} where
 
   -- ---- the end of a serving
 
-  in_turn : (most : ℕ) (front : List (List ℕ)) (first book new : Book D ghosts) → InGroups most front first book → IsByCalls book new → AreServedInTurn most front first new
+  in_turn : {limit : ℕ} (most : ℕ) (front : List (List ℕ)) (first book new : Book D ghosts) → InGroups limit most front first book → IsByCalls book new → AreServedInTurn limit most front first new
   in_turn most front first book new g after = record { groups = g.groups; parted = g.parted; small = g.small; between = book; answered = g.answered; after = after }
 
   -- all lines are answered
-  pub serving_over : {T : Type 0} (v : T) → SomeWay → (most : ℕ) (text rest : Option (List ℕ)) (count left : ℕ) (first book : Book D ghosts) (old mid new : Option (List ℕ))
-      → Serves most text rest count left first book old mid → HasNoLine rest → Keeps mid new → IsByCalls book book
-      → OfLines text (λ ls. IsServing {T = T} most (Ok v) ls first book old new)
-  serving_over {T} v law most text rest count left first book old mid new s none kept idle =
-      of_lines text rest s.way.front [] (λ ls. IsServing {T = T} most (Ok v) ls first book old new) s.way.first (none_ahead rest none) (record {
+  pub serving_over : {limit : ℕ} {T : Type 0} (v : T) → SomeWay → (most : ℕ) (text rest : Option (List ℕ)) (count left : ℕ) (first book : Book D ghosts) (old mid new : Option (List ℕ))
+      → Serves limit most text rest count left first book old mid → HasNoLine rest → Keeps mid new → IsByCalls book book
+      → OfLines text (λ ls. IsServing {T = T} limit most (Ok v) ls first book old new)
+  serving_over {limit} {T} v law most text rest count left first book old mid new s none kept idle =
+      of_lines text rest s.way.front [] (λ ls. IsServing {T = T} limit most (Ok v) ls first book old new) s.way.first (none_ahead rest none) (record {
         front = s.way.front;
         rest = [];
         parted = refl;
@@ -271,16 +271,16 @@ module _ {D : Type 0} {ghosts : Ghosts D} where
       })
 
   -- a fault came after these lines, and before those that are to come
-  pub serving_err : {T : Type 0} (r : Result T ServeFault) (fault : ServeFault) → IsErrAnd r (λ x. x ≡ fault)
+  pub serving_err : {limit : ℕ} {T : Type 0} (r : Result T ServeFault) (fault : ServeFault) → IsErrAnd r (λ x. x ≡ fault)
       → (most : ℕ) (text rest : Option (List ℕ)) (front more : List (List ℕ)) (first book new : Book D ghosts) (old now : Option (List ℕ))
       → AreFirst text front rest → AreToCome rest more
       → (fault ≢ Write → IsEnded fault most (IsAllKept first) front more (table_of first) (table_of new) (last_kept new) old now)
       → (fault ≡ Write → IsCut most front (table_of first) (table_of new) old now) → (fault ≡ Write → IsAllKept first → IsAllKept new)
-      → LeavesServed first new (front ++ more) → InGroups most front first book → IsByCalls book new → OfLines text (λ ls. IsServing most r ls first new old now)
+      → LeavesServed first new (front ++ more) → InGroups limit most front first book → IsByCalls book new → OfLines text (λ ls. IsServing limit most r ls first new old now)
   serving_err (Ok v) fault is most text rest front more first book new old now begins coming ended cut kept run turns after = absurd is
-  serving_err {T} (Err e) fault is most text rest front more first book new old now begins coming ended cut kept run turns after =
+  serving_err {limit} {T} (Err e) fault is most text rest front more first book new old now begins coming ended cut kept run turns after =
       let same : e ≡ fault = is in
-      of_lines text rest front more (λ ls. IsServing {T = T} most (Err e) ls first new old now) begins coming (record {
+      of_lines text rest front more (λ ls. IsServing {T = T} limit most (Err e) ls first new old now) begins coming (record {
         front = front;
         rest = more;
         parted = refl;
@@ -295,11 +295,11 @@ module _ {D : Type 0} {ghosts : Ghosts D} where
       })
 
   -- where no line is taken
-  pub serving_untaken : {T : Type 0} (r : Result T ServeFault) (fault : ServeFault) → IsErrAnd r (λ x. x ≡ fault) → SomeWay
+  pub serving_untaken : {limit : ℕ} {T : Type 0} (r : Result T ServeFault) (fault : ServeFault) → IsErrAnd r (λ x. x ≡ fault) → SomeWay
       → (most : ℕ) (text rest : Option (List ℕ)) (count left : ℕ) (first book : Book D ghosts) (old mid new : Option (List ℕ)) (more : List (List ℕ)) → 1 ≤ most
-      → (s : Serves most text rest count left first book old mid) → Keeps mid new → AreToCome rest more → SaysOf fault (table_of book) (table_of book) s.way.front more
+      → (s : Serves limit most text rest count left first book old mid) → Keeps mid new → AreToCome rest more → SaysOf fault (table_of book) (table_of book) s.way.front more
       → (IsAllKept book → last_kept book ≡ table_of book) → IsByCalls book book
-      → OfLines text (λ ls. IsServing most r ls first book old new)
+      → OfLines text (λ ls. IsServing limit most r ls first book old new)
   serving_untaken r fault is law most text rest count left first book old mid new more one s kept coming says whole idle =
       serving_err r fault is most text rest s.way.front more first book book old new s.way.first coming
       (λ other. ended_at fault most (IsAllKept first) s.way.front more (table_of first) (table_of book) (table_of book) (last_kept book) old mid new s.way.answered kept says

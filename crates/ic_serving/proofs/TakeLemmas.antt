@@ -94,8 +94,8 @@ module _ {D : Type 0} {ghosts : Ghosts D} where
         }
 
     -- its event has come, and what was kept before is kept, or all is
-    pub taken_begins : (old mid new : Book D ghosts) → StaysPut old mid → kept_of mid ≤ length (log_of mid) → replay (start_of new) (log_of new) ≡ table_of new
-        → Taken command reply mid new → Begins (by_command command ∷ []) old new
+    pub taken_begins : {limit : ℕ} (old mid new : Book D ghosts) → StaysPut limit old mid → kept_of mid ≤ length (log_of mid) → replay (start_of new) (log_of new) ≡ table_of new
+        → Taken command reply mid new → Begins limit (by_command command ∷ []) old new
     taken_begins old mid new s within replayed (inl is) =
         let added = is.page.0.adds in
         let moved = after_event (table_of mid) (table_of new) (by_command command) reply added.event in

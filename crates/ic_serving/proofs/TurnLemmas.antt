@@ -18,7 +18,7 @@ module _ {D : Type 0} {ghosts : Ghosts D} where
   }
 
   -- one group more
-  pub turns_more : (groups : List (List (List ℕ))) (ls : List (List ℕ)) (bytes : List ℕ) (first book new : Book D ghosts) → AreAnsweredInTurn groups first book
-      → AreAnsweredAtOnce ls bytes book new → AreAnsweredInTurn (groups ++ ls ∷ []) first new
-  turns_more [] ls bytes first book new turns is = (new, bytes, subst (λ (b : Book D ghosts). AreAnsweredAtOnce ls bytes b new) turns is, refl)
+  pub turns_more : {limit : ℕ} (groups : List (List (List ℕ))) (ls : List (List ℕ)) (bytes : List ℕ) (first book new : Book D ghosts) → AreAnsweredInTurn limit groups first book
+      → AreAnsweredAtOnce limit ls bytes book new → AreAnsweredInTurn limit (groups ++ ls ∷ []) first new
+  turns_more {limit} [] ls bytes first book new turns is = (new, bytes, subst (λ (b : Book D ghosts). AreAnsweredAtOnce limit ls bytes b new) turns is, refl)
   turns_more (group ∷ groups) ls bytes first book new turns is = (turns.0, turns.1, turns.2, turns_more groups ls bytes turns.0 book new turns.3 is)

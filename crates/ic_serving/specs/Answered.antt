@@ -86,7 +86,7 @@ IsDoneFor (Ok (Run count)) bytes old new = EndsWith keeps old new
 IsDoneFor (Err fault) bytes old new = IsByCalls old new
 
 -- a line is answered, what it leaves is kept, and its events stand at the end of the page
-pub record IsAnswered {D : Type 0} {ghosts : Ghosts D} (line bytes : List ℕ)
+pub record IsAnswered {D : Type 0} {ghosts : Ghosts D} (limit : ℕ) (line bytes : List ℕ)
     (old new : Book D ghosts) : Type 0 where
   pub reading : Reading
   pub read : ReadsLine line reading
@@ -95,24 +95,24 @@ pub record IsAnswered {D : Type 0} {ghosts : Ghosts D} (line bytes : List ℕ)
   pub kept : IsKeptFor reading old new
   pub whole : IsWholeFor reading new
   pub fresh : IsFreshFor reading old
-  pub page : HasRoom (events (table_of old) reading) old
+  pub page : HasRoom limit (events (table_of old) reading) old
       → GoesOn (events (table_of old) reading) old new
   pub done : IsDoneFor reading bytes old new
 
 -- a line was begun: a front of its events has come to the table, and then this fault came
-pub record IsBegun {D : Type 0} {ghosts : Ghosts D} (line : List ℕ) (fault : ServeFault)
+pub record IsBegun {D : Type 0} {ghosts : Ghosts D} (limit : ℕ) (line : List ℕ) (fault : ServeFault)
     (old new : Book D ghosts) : Type 0 where
   pub reading : Reading
   pub read : ReadsLine line reading
   pub comes : ComesFor (table_of old) reading (table_of new) fault
-  pub begun : Begins (events (table_of old) reading) old new
+  pub begun : Begins limit (events (table_of old) reading) old new
 
 -- so few calls to the disk are made for the events that a line asks for
-pub record CallsFewFor {D : Type 0} {ghosts : Ghosts D} (line : List ℕ) (every : ℕ)
+pub record CallsFewFor {D : Type 0} {ghosts : Ghosts D} (limit : ℕ) (line : List ℕ) (every : ℕ)
     (old new : Book D ghosts) : Type 0 where
   pub reading : Reading
   pub read : ReadsLine line reading
-  pub calls : CallsFew (events (table_of old) reading) every old new
+  pub calls : CallsFew limit (events (table_of old) reading) every old new
 
 -- these lines ask for these commands
 abbrev pub AskFor : List (List ℕ) → List Command → Type 0
@@ -121,7 +121,7 @@ AskFor ls commands = AreRead ls (map (λ (command : Command). Ok (Asks command))
 -- Lines are answered at once: the commands that they ask for are taken one after the other, and then
 -- all is kept. Their events stand at the end of the page. Where this had room for one, no more calls to
 -- the disk are made than one keep makes.
-pub record IsGroupAnswered {D : Type 0} {ghosts : Ghosts D} (ls : List (List ℕ)) (bytes : List ℕ)
+pub record IsGroupAnswered {D : Type 0} {ghosts : Ghosts D} (limit : ℕ) (ls : List (List ℕ)) (bytes : List ℕ)
     (old new : Book D ghosts) : Type 0 where
   pub commands : List Command
   pub asked : AskFor ls commands
@@ -132,13 +132,13 @@ pub record IsGroupAnswered {D : Type 0} {ghosts : Ghosts D} (ls : List (List ℕ
   pub all : IsAllKept new
   pub whole : is_broken new ≡ false
   pub fresh : number_of old ≢ 2 ^ 64 - 1
-  pub page : HasRoom (map by_command commands) old → GoesOn (map by_command commands) old new
-  pub calls : HasSpare old
+  pub page : HasRoom limit (map by_command commands) old → GoesOn (map by_command commands) old new
+  pub calls : HasSpare limit old
       → ghosts.clock (disk_of new) ≤ ghosts.clock (disk_of old) + 6
 
 -- Lines are answered at once: one line by itself, or such a group.
-pub data AreAnsweredAtOnce {D : Type 0} {ghosts : Ghosts D} (ls : List (List ℕ)) (bytes : List ℕ)
+pub data AreAnsweredAtOnce {D : Type 0} {ghosts : Ghosts D} (limit : ℕ) (ls : List (List ℕ)) (bytes : List ℕ)
     (old new : Book D ghosts) : Type 0 where
-  by_line : (line : List ℕ) → ls ≡ line ∷ [] → IsAnswered line bytes old new
-      → AreAnsweredAtOnce ls bytes old new
-  by_group : IsGroupAnswered ls bytes old new → AreAnsweredAtOnce ls bytes old new
+  by_line : (line : List ℕ) → ls ≡ line ∷ [] → IsAnswered limit line bytes old new
+      → AreAnsweredAtOnce limit ls bytes old new
+  by_group : IsGroupAnswered limit ls bytes old new → AreAnsweredAtOnce limit ls bytes old new

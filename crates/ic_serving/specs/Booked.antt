@@ -28,10 +28,10 @@ unkept_of book = length (log_of book) - kept_of book
 -- ---- of one call
 
 -- the table stays, and either the table that was kept last stays too, or it is kept now
-pub record StaysPut {D : Type 0} {ghosts : Ghosts D} (old new : Book D ghosts) : Type 0 where
+pub record StaysPut {D : Type 0} {ghosts : Ghosts D} (limit : ℕ) (old new : Book D ghosts) : Type 0 where
   pub table : table_of new ≡ table_of old
   pub kept : (last_kept new ≡ last_kept old) ⊎ (last_kept new ≡ table_of old)
-  pub page : HasSpare old → IsSamePage old new
+  pub page : HasSpare limit old → IsSamePage old new
 
 -- one event comes to the table, and it isn't kept; what was there before may be kept now
 pub record Advances {D : Type 0} {ghosts : Ghosts D} (e : Event) (old new : Book D ghosts) : Type 0 where
@@ -39,18 +39,18 @@ pub record Advances {D : Type 0} {ghosts : Ghosts D} (e : Event) (old new : Book
   pub kept : (last_kept new ≡ last_kept old) ⊎ (last_kept new ≡ table_of old)
 
 -- a round is made, or its job is halted: that of the job that is due, whose place this is
-pub record MakesRound {D : Type 0} {ghosts : Ghosts D} (after place : ℕ) (old new : Book D ghosts) : Type 0 where
+pub record MakesRound {D : Type 0} {ghosts : Ghosts D} (limit after place : ℕ) (old new : Book D ghosts) : Type 0 where
   pub flight : FlightParts
   pub is_due : due (table_of old) after ≡ Some flight
   pub here : place ≡ flight.place
   pub advances : Advances (Round flight.name) old new
-  pub page : HasSpare old → GoesOn (Round flight.name ∷ []) old new
+  pub page : HasSpare limit old → GoesOn (Round flight.name ∷ []) old new
 
 -- ---- of a line that is begun
 
 -- some events were begun: a front of them has come to the table and to its page, and what was kept
 -- before or a front of them is kept
-pub record Begins {D : Type 0} {ghosts : Ghosts D} (es : List Event) (old new : Book D ghosts) : Type 0 where
+pub record Begins {D : Type 0} {ghosts : Ghosts D} (limit : ℕ) (es : List Event) (old new : Book D ghosts) : Type 0 where
   pub table : IsPart (table_of old) es (table_of new)
   pub kept : IsKeptWithin (table_of old) (last_kept old) es (last_kept new)
-  pub page : HasRoom es old → GoesOnWithin es old new
+  pub page : HasRoom limit es old → GoesOnWithin es old new

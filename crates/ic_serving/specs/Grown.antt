@@ -30,17 +30,21 @@ pub record GoesOnWithin {D : Type 0} {ghosts : Ghosts D} (es : List Event) (old 
   pub parted : es ≡ front ++ rest
   pub goes : GoesOn front old new
 
+-- what the entries of a page may weigh before a new one begins
+abbrev pub IsLimit : ℕ → Type 0
+IsLimit limit = (1 ≤ limit) × (limit ≤ PAGE_WEIGHT)
+
 -- the page has room for an event: it ends once its entries weigh so much
-abbrev pub HasSpare : {D : Type 0} {ghosts : Ghosts D} → Book D ghosts → Type 0
-HasSpare book = weight_of (log_of book) < PAGE_WEIGHT
+abbrev pub HasSpare : {D : Type 0} {ghosts : Ghosts D} → (limit : ℕ) → Book D ghosts → Type 0
+HasSpare limit book = weight_of (log_of book) < limit
 
 -- it has room for these events, and for one more
-abbrev pub HasRoom : {D : Type 0} {ghosts : Ghosts D} → List Event → Book D ghosts → Type 0
-HasRoom es book = weight_of (log_of book) + weigh es < PAGE_WEIGHT
+abbrev pub HasRoom : {D : Type 0} {ghosts : Ghosts D} → (limit : ℕ) → List Event → Book D ghosts → Type 0
+HasRoom limit es book = weight_of (log_of book) + weigh es < limit
 
 -- Where the page has such room, at most six calls to the disk are made for each `every` of these
 -- events, and six at their end.
-abbrev pub CallsFew : {D : Type 0} {ghosts : Ghosts D} → List Event → (every : ℕ)
+abbrev pub CallsFew : {D : Type 0} {ghosts : Ghosts D} → (limit : ℕ) → List Event → (every : ℕ)
     → (old new : Book D ghosts) → Type 0
-CallsFew {D} {ghosts} es every old new = HasRoom es old
+CallsFew {D} {ghosts} limit es every old new = HasRoom limit es old
     → ghosts.clock (disk_of new) ≤ ghosts.clock (disk_of old) + 6 * (length es / every + 1)

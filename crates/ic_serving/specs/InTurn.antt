@@ -47,53 +47,53 @@ replies_taken (command ∷ commands) bytes first last taken =
 -- ---- of lines that are answered at once
 
 -- their moves, the newest first: those of a group end with its keep
-abbrev pub moves_at_once : {D : Type 0} {ghosts : Ghosts D} (ls : List (List ℕ)) (bytes : List ℕ)
-    (old new : Book D ghosts) → AreAnsweredAtOnce ls bytes old new → List Move
-moves_at_once ls bytes old new (by_line line one is) =
+abbrev pub moves_at_once : {D : Type 0} {ghosts : Ghosts D} (limit : ℕ) (ls : List (List ℕ)) (bytes : List ℕ)
+    (old new : Book D ghosts) → AreAnsweredAtOnce limit ls bytes old new → List Move
+moves_at_once limit ls bytes old new (by_line line one is) =
     (calls_for is.reading bytes old new is.done).moves
-moves_at_once ls bytes old new (by_group group) = group.kept.done.moves
+moves_at_once limit ls bytes old new (by_group group) = group.kept.done.moves
     ++ moves_taken group.commands bytes old group.between group.taken
 
 -- the commands that they were, with the replies that answered them, in order
-abbrev pub replies_at_once : {D : Type 0} {ghosts : Ghosts D} (ls : List (List ℕ)) (bytes : List ℕ)
-    (old new : Book D ghosts) → AreAnsweredAtOnce ls bytes old new → List Entry
-replies_at_once ls bytes old new (by_line line one is) =
+abbrev pub replies_at_once : {D : Type 0} {ghosts : Ghosts D} (limit : ℕ) (ls : List (List ℕ)) (bytes : List ℕ)
+    (old new : Book D ghosts) → AreAnsweredAtOnce limit ls bytes old new → List Entry
+replies_at_once limit ls bytes old new (by_line line one is) =
     reply_for is.reading bytes old new is.done
-replies_at_once ls bytes old new (by_group group) =
+replies_at_once limit ls bytes old new (by_group group) =
     replies_taken group.commands bytes old group.between group.taken
 
 -- ---- of groups
 
 -- These groups of lines were answered over a book, one after the other, each at once.
-abbrev pub AreAnsweredInTurn : {D : Type 0} {ghosts : Ghosts D}
+abbrev pub AreAnsweredInTurn : {D : Type 0} {ghosts : Ghosts D} → (limit : ℕ)
     → List (List (List ℕ)) → (first last : Book D ghosts) → Type 0
-AreAnsweredInTurn [] first last = last ≡ first
-AreAnsweredInTurn {D} {ghosts} (group ∷ groups) first last =
-    (next : Book D ghosts) × (bytes : List ℕ) × AreAnsweredAtOnce group bytes first next
-    × AreAnsweredInTurn groups next last
+AreAnsweredInTurn limit [] first last = last ≡ first
+AreAnsweredInTurn {D} {ghosts} limit (group ∷ groups) first last =
+    (next : Book D ghosts) × (bytes : List ℕ) × AreAnsweredAtOnce limit group bytes first next
+    × AreAnsweredInTurn limit groups next last
 
 -- their moves, the newest first
-abbrev pub moves_in_turn : {D : Type 0} {ghosts : Ghosts D} (groups : List (List (List ℕ)))
-    (first last : Book D ghosts) → AreAnsweredInTurn groups first last → List Move
-moves_in_turn [] first last turns = []
-moves_in_turn (group ∷ groups) first last turns = moves_in_turn groups turns.0 last turns.3
-    ++ moves_at_once group turns.1 first turns.0 turns.2
+abbrev pub moves_in_turn : {D : Type 0} {ghosts : Ghosts D} (limit : ℕ) (groups : List (List (List ℕ)))
+    (first last : Book D ghosts) → AreAnsweredInTurn limit groups first last → List Move
+moves_in_turn limit [] first last turns = []
+moves_in_turn limit (group ∷ groups) first last turns = moves_in_turn limit groups turns.0 last turns.3
+    ++ moves_at_once limit group turns.1 first turns.0 turns.2
 
 -- the commands of these lines with the replies that answered them, in order
-abbrev pub replies_in_turn : {D : Type 0} {ghosts : Ghosts D} (groups : List (List (List ℕ)))
-    (first last : Book D ghosts) → AreAnsweredInTurn groups first last → List Entry
-replies_in_turn [] first last turns = []
-replies_in_turn (group ∷ groups) first last turns =
-    replies_at_once group turns.1 first turns.0 turns.2
-    ++ replies_in_turn groups turns.0 last turns.3
+abbrev pub replies_in_turn : {D : Type 0} {ghosts : Ghosts D} (limit : ℕ) (groups : List (List (List ℕ)))
+    (first last : Book D ghosts) → AreAnsweredInTurn limit groups first last → List Entry
+replies_in_turn limit [] first last turns = []
+replies_in_turn limit (group ∷ groups) first last turns =
+    replies_at_once limit group turns.1 first turns.0 turns.2
+    ++ replies_in_turn limit groups turns.0 last turns.3
 
 -- These lines were answered in turn, in groups of at most so many, and all that was done after them is
 -- calls of the book.
-pub record AreServedInTurn {D : Type 0} {ghosts : Ghosts D} (most : ℕ) (ls : List (List ℕ))
+pub record AreServedInTurn {D : Type 0} {ghosts : Ghosts D} (limit most : ℕ) (ls : List (List ℕ))
     (old new : Book D ghosts) : Type 0 where
   pub groups : List (List (List ℕ))
   pub parted : ls ≡ flat_map (λ group. group) groups
   pub small : AllByRecursion (λ group. length group ≤ most) groups
   pub between : Book D ghosts
-  pub answered : AreAnsweredInTurn groups old between
+  pub answered : AreAnsweredInTurn limit groups old between
   pub after : IsByCalls between new

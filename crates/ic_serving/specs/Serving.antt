@@ -18,13 +18,13 @@ use Rattle.ic_serving.specs.InTurn.{AreServedInTurn}
 --
 -- Where all was kept, all is kept after each answer. A crash at any moment leaves a table that the
 -- lines reach, or where not all was kept before, the one that was.
-pub record IsServing {T : Type 0} {D : Type 0} {ghosts : Ghosts D} (most : ℕ)
+pub record IsServing {T : Type 0} {D : Type 0} {ghosts : Ghosts D} (limit most : ℕ)
     (result : Result T ServeFault) (ls : List (List ℕ)) (old new : Book D ghosts) (before after : Option (List ℕ)) : Type 0 where
   pub front : List (List ℕ)
   pub rest : List (List ℕ)
   pub parted : ls ≡ front ++ rest
   pub all : OnOk result (rest ≡ [])
-  pub turns : AreServedInTurn most front old new
+  pub turns : AreServedInTurn limit most front old new
   pub served : OnOk result (AreAnswered ls (table_of old) (table_of new) before after)
   pub kept : OnOk result (IsAllKept old → IsAllKept new)
   pub ended : IfErr result (λ fault. fault ≢ Write → IsEnded fault most (IsAllKept old) front rest

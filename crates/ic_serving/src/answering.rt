@@ -13,9 +13,8 @@ ghost use Rattle.ic_serving.specs.Booked.{last_kept, unkept_of, Begins, IsAllKep
 ghost use Rattle.ic_serving.specs.Parts.{IsBeforeRound, IsKeptWithin};
 ghost use Rattle.ic_book.specs.Moves.{keeps};
 ghost use Rattle.ic_book.specs.Weight.{weight, weight_of};
-ghost use Rattle.ic_serving.specs.declared.limits.TheConstants.{PAGE_WEIGHT};
 ghost use Rattle.ic_serving.specs.Answered.{CallsFewFor, EndsWith, IsAnswered, IsBegun, IsReplied};
-ghost use Rattle.ic_serving.specs.Grown.{CallsFew, GoesOn, HasRoom, HasSpare};
+ghost use Rattle.ic_serving.specs.Grown.{CallsFew, GoesOn, HasRoom, HasSpare, IsLimit};
 ghost use Rattle.ic_serving.specs.Moments.{FaultLeaves, Leaves, IsKeptInLine};
 ghost use Rattle.ic_serving.specs.Faults.{ComesAlone, ComesBroken, ComesFor, ComesInLine, ComesUnmade, ComesWithoutRound};
 ghost use Rattle.ic_serving.specs.inner.Reading.{IsAnsweredAs};
@@ -43,9 +42,9 @@ pub(crate) type Reading = Result<Line, TextFault>;
 /// the line, at most `every` of them aren't kept.
 ///
 /// A round is made by at most so many workers, and by one where it is small. Rounds are kept after
-/// each `every` of them and at the end. Workers that stand for large rounds are joined before it
-/// returns. The line is given without its line feed. A refused line is answered by its refusal, a
-/// blank one by nothing.
+/// each `every` of them and at the end. A page of the history ends once its entries weigh `limit`.
+/// Workers that stand for large rounds are joined before it returns. The line is given without its line
+/// feed. A refused line is answered by its refusal, a blank one by nothing.
 pub fn answer_line<T: Threads + Wait + Copy + Send + 'static, D: Disk>(
     rt: &T,
     alloc: Global,
@@ -53,17 +52,20 @@ pub fn answer_line<T: Threads + Wait + Copy + Send + 'static, D: Disk>(
     line: &[u8],
     workers: usize,
     every: u64,
+    limit: u64,
 ) -> Result<Vec<u8>, ServeFault>
     requires workers { 1 ≤ workers }
     requires every { 1 ≤ every }
-    ensures answered { IfOk result (λ bytes. IsAnswered line.now bytes.items book.old book.new) }
-    ensures begun { IfErr result (λ fault. IsBegun line.now fault book.old book.new) }
+    requires limit { IsLimit limit }
+    ensures answered { IfOk result (λ bytes.
+        IsAnswered limit line.now bytes.items book.old book.new) }
+    ensures begun { IfErr result (λ fault. IsBegun limit line.now fault book.old book.new) }
     ensures fault { FaultLeaves ComesInLine result book.old book.new }
     ensures broken { is_broken book.old ≡ true → IfErr result ComesBroken }
     ensures still { is_broken book.old ≡ true → OnOk result (is_broken book.new ≡ true) }
     ensures alone { workers ≡ 1 → IfErr result ComesAlone }
     ensures few_unkept { IsAllKept book.old → unkept_of book.new ≤ every }
-    ensures few_calls { CallsFewFor line.now every book.old book.new }
+    ensures few_calls { CallsFewFor limit line.now every book.old book.new }
 
     // A crash at any moment leaves the table that was kept before the line, or one within it.
     ensures crash { Leaves book.old book.new
@@ -80,6 +82,7 @@ pub fn answer_line<T: Threads + Wait + Copy + Send + 'static, D: Disk>(
         reading,
         workers,
         every,
+        limit,
         &OpenGate,
         &mut makers,
     );
@@ -107,28 +110,35 @@ pub(crate) fn answer_read<T: Threads + Wait + Copy + Send + 'static, D: Disk, G:
     reading: Reading,
     workers: usize,
     every: u64,
+    limit: u64,
     gate: &G,
     makers: &mut Makers,
 ) -> Result<Vec<u8>, ServeFault>
     requires workers { 1 ≤ workers }
     requires every { 1 ≤ every }
-    ensures answered { IfOk result (λ bytes. IsAnsweredAs reading bytes.items book.old book.new) }
-    ensures begun { OnErr result (Begins (events (table_of book.old) reading) book.old book.new) }
+    requires limit { IsLimit limit }
+    ensures answered { IfOk result (λ bytes.
+        IsAnsweredAs limit reading bytes.items book.old book.new) }
+    ensures begun { OnErr result (Begins limit
+        (events (table_of book.old) reading) book.old book.new) }
     ensures comes { IfErr result (ComesFor (table_of book.old) reading (table_of book.new)) }
     ensures fault { FaultLeaves ComesInLine result book.old book.new }
     ensures broken { is_broken book.old ≡ true → IfErr result ComesBroken }
     ensures still { is_broken book.old ≡ true → OnOk result (is_broken book.new ≡ true) }
     ensures alone { workers ≡ 1 → IfErr result ComesAlone }
     ensures few_unkept { IsAllKept book.old → unkept_of book.new ≤ every }
-    ensures few_calls { CallsFew (events (table_of book.old) reading) every book.old book.new }
+    ensures few_calls { CallsFew limit
+        (events (table_of book.old) reading) every book.old book.new }
     ensures crash { Leaves book.old book.new (IsKeptWithin (table_of book.old)
         (last_kept book.old) (events (table_of book.old) reading)) }
 {
     book.facts();
     match reading {
         Ok(Line::Blank) => Ok(Vec::new(alloc)),
-        Ok(Line::Command(command)) => answer_command(alloc, book, command),
-        Ok(Line::Run(count)) => answer_run(rt, alloc, book, count, workers, every, gate, makers),
+        Ok(Line::Command(command)) => answer_command(alloc, book, command, limit),
+        Ok(Line::Run(count)) => answer_run(
+            rt, alloc, book, count, workers, every, limit, gate, makers,
+        ),
         Err(fault) => answer_refused(alloc, fault),
     }
 }
@@ -140,12 +150,15 @@ fn answer_refused(alloc: Global, fault: TextFault) -> Result<Vec<u8>, ServeFault
     Ok(ended(print_fault(alloc, &fault)?)?)
 }
 
-/// Does what a command asks, keeps it, and answers what is to be written for it, with a line feed.
+/// Does what a command asks, keeps it, and answers what is to be written for it, with a line feed. A page
+/// that weighs `limit` ends before.
 pub fn answer_command<D: Disk>(
     alloc: Global,
     book: &mut Book<D>,
     command: Command,
+    limit: u64,
 ) -> Result<Vec<u8>, ServeFault>
+    requires limit { IsLimit limit }
     ensures answer { IfOk result (λ bytes.
         bytes.items ≡ answer (table_of book.old) (Ok (Asks command))) }
     ensures table { OnOk result
@@ -154,9 +167,9 @@ pub fn answer_command<D: Disk>(
     ensures whole { OnOk result (is_broken book.new ≡ false) }
     ensures replied { IfOk result (λ bytes. IsReplied command bytes.items book.old book.new) }
     ensures fresh { OnOk result (number_of book.old ≢ 2 ^ 64 - 1) }
-    ensures page { OnOk result (HasRoom (by_command command ∷ []) book.old
+    ensures page { OnOk result (HasRoom limit (by_command command ∷ []) book.old
         → GoesOn (by_command command ∷ []) book.old book.new) }
-    ensures begun { OnErr result (Begins (by_command command ∷ []) book.old book.new) }
+    ensures begun { OnErr result (Begins limit (by_command command ∷ []) book.old book.new) }
     ensures fault { FaultLeaves ComesInLine result book.old book.new }
     ensures comes { IfErr result ComesWithoutRound }
     ensures broken { is_broken book.old ≡ true → IfErr result ComesBroken }
@@ -164,13 +177,13 @@ pub fn answer_command<D: Disk>(
     ensures alone { IfErr result ComesAlone }
     ensures few_unkept { unkept_of book.new ≤ unkept_of book.old + 1 }
     ensures bounded { OnOk result (weight_of (log_of book.new)
-        < PAGE_WEIGHT + weight (by_command command)) }
-    ensures few_calls { HasSpare book.old
+        < limit + weight (by_command command)) }
+    ensures few_calls { HasSpare limit book.old
         → D.clock (disk_of book.new) ≤ D.clock (disk_of book.old) + 6 }
     ensures crash { Leaves book.old book.new (IsKeptWithin (table_of book.old)
         (last_kept book.old) (by_command command ∷ [])) }
 {
-    make_room(alloc, book)?;
+    make_room(alloc, book, limit)?;
     book.facts();
     let reply = book.command(alloc, 0, command)?;
     book.facts();
@@ -184,11 +197,13 @@ fn answer_run<T: Threads + Wait + Copy + Send + 'static, D: Disk, G: Gate>(
     count: u64,
     workers: usize,
     every: u64,
+    limit: u64,
     gate: &G,
     makers: &mut Makers,
 ) -> Result<Vec<u8>, ServeFault>
     requires workers { 1 ≤ workers }
     requires every { 1 ≤ every }
+    requires limit { IsLimit limit }
     ensures answer { IfOk result (λ bytes.
         bytes.items ≡ answer (table_of book.old) (Ok (Run count))) }
     ensures table { OnOk result
@@ -196,9 +211,10 @@ fn answer_run<T: Threads + Wait + Copy + Send + 'static, D: Disk, G: Gate>(
     ensures kept { OnOk result (IsAllKept book.new) }
     ensures whole { OnOk result (is_broken book.new ≡ false) }
     ensures made { OnOk result (EndsWith keeps book.old book.new) }
-    ensures page { OnOk result (HasRoom (turns count 0 (table_of book.old)) book.old
+    ensures page { OnOk result (HasRoom limit (turns count 0 (table_of book.old)) book.old
         → GoesOn (turns count 0 (table_of book.old)) book.old book.new) }
-    ensures begun { OnErr result (Begins (turns count 0 (table_of book.old)) book.old book.new) }
+    ensures begun { OnErr result (Begins limit
+        (turns count 0 (table_of book.old)) book.old book.new) }
     ensures fault { FaultLeaves ComesInLine result book.old book.new }
     ensures idle { turns count 0 (table_of book.old) ≡ [] → IfErr result ComesWithoutRound }
     ensures unmade { IfErr result (λ fault. ComesUnmade fault ⊎ IsBeforeRound
@@ -207,11 +223,11 @@ fn answer_run<T: Threads + Wait + Copy + Send + 'static, D: Disk, G: Gate>(
     ensures unbroken { OnOk result (is_broken book.old ≡ false) }
     ensures alone { workers ≡ 1 → IfErr result ComesAlone }
     ensures few_unkept { IsAllKept book.old → unkept_of book.new ≤ every }
-    ensures few_calls { CallsFew (turns count 0 (table_of book.old)) every book.old book.new }
+    ensures few_calls { CallsFew limit (turns count 0 (table_of book.old)) every book.old book.new }
     ensures crash { Leaves book.old book.new (IsKeptWithin (table_of book.old)
         (last_kept book.old) (turns count 0 (table_of book.old))) }
 {
-    let made = run(rt, alloc, book, count, workers, every, gate, makers)?;
+    let made = run(rt, alloc, book, count, workers, every, limit, gate, makers)?;
     book.facts();
     let mut line = b"ran ".to_vec(alloc)?;
     put_decimal(made, &mut line)?;

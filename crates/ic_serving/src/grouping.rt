@@ -6,6 +6,7 @@ ghost use Rattle.ic_serving.specs.declared.limits.TheConstants.{MAX_LINES};
 ghost use Rattle.ic_serving.specs.Booked.{unkept_of, IsAllKept};
 ghost use Rattle.ic_serving.specs.Moments.{FaultLeaves};
 ghost use Rattle.ic_serving.specs.Faults.{ComesAlone, ComesBroken, ComesInLine, ComesWithoutRound};
+ghost use Rattle.ic_serving.specs.Grown.{IsLimit};
 ghost use Rattle.ic_serving.specs.inner.Group.{IsGroupBegun, IsGroupDone};
 
 use crate::fault::ServeFault;
@@ -26,12 +27,15 @@ pub(crate) fn answer_group<D: Disk>(
     first: Command,
     lines: &mut LineBuffer,
     most: usize,
+    limit: u64,
 ) -> Result<Answered, ServeFault>
     requires some { 1 ≤ most }
     requires few { most ≤ MAX_LINES }
-    ensures done { IfOk result (λ group. IsGroupDone most first lines.old lines.new
+    requires limit { IsLimit limit }
+    ensures done { IfOk result (λ group. IsGroupDone limit most first lines.old lines.new
         group.answers.items group.count book.old book.new) }
-    ensures begun { OnErr result (IsGroupBegun most first lines.old lines.new book.old book.new) }
+    ensures begun { OnErr result
+        (IsGroupBegun limit most first lines.old lines.new book.old book.new) }
     ensures all { OnOk result (IsAllKept book.new) }
     ensures whole { OnOk result (is_broken book.new ≡ false) }
     ensures fault { FaultLeaves ComesInLine result book.old book.new }
@@ -41,7 +45,7 @@ pub(crate) fn answer_group<D: Disk>(
     ensures alone { IfErr result ComesAlone }
     ensures few_unkept { unkept_of book.new ≤ unkept_of book.old + most }
 {
-    let answers = take_command(alloc, book, first)?;
+    let answers = take_command(alloc, book, first, limit)?;
     let mut group = Answered { answers, count: 1 };
     take_ready(alloc, book, lines, most - 1, &mut group)?;
     keep_all(book)?;

@@ -3,7 +3,8 @@
 /// Lines that are served, blank and refused ones counted.
 pub const MAX_LINES: usize = 1_000_000;
 
-/// What the entries of a page weigh, in units of 1,024 bytes, before a new page begins: 64 MB.
+/// What the entries of a page may weigh at most, in units of 1,024 bytes, before a new page begins: 64 MB. A caller may have one
+/// begin earlier.
 pub const PAGE_WEIGHT: u64 = 65_536;
 
 /// What a round of an equation takes, in the time that a word takes which is copied.

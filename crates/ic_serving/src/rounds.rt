@@ -10,18 +10,16 @@ ghost use Rattle.ic_book.specs.declared.limits.TheConstants.{MAX_ENTRIES};
 ghost use Rattle.ic_book.specs.Book.{is_broken, start_of, table_of, log_of, kept_of, number_of, keeper_of, disk_of, IsUnchanged};
 ghost use Rattle.ic_book.specs.Entries.{round_entry};
 ghost use Rattle.ic_book.specs.Weight.{weight_of};
-ghost use Rattle.ic_serving.specs.declared.limits.TheConstants.{PAGE_WEIGHT};
 ghost use Rattle.ic_serving.specs.Booked.{last_kept, unkept_of, IsAllKept, Advances, MakesRound, StaysPut};
 ghost use Rattle.ic_book.specs.ByCalls.{IsByCalls};
 ghost use Rattle.ic_book.specs.Moves.{keeps};
 ghost use Rattle.ic_book.specs.declared.fault.BookFault.TheVariants as of_book;
 ghost use Rattle.ic_serving.specs.Answered.{EndsWith};
 ghost use Rattle.ic_serving.specs.Faults.{ComesAlone, ComesBroken, ComesInLine, ComesUnmade, ComesWithoutRound};
-ghost use Rattle.ic_serving.specs.Grown.{HasSpare, IsSamePage};
+ghost use Rattle.ic_serving.specs.Grown.{HasSpare, IsLimit, IsSamePage};
 ghost use Rattle.ic_serving.specs.Moments.{FaultLeaves, Leaves, IsKeptOrNow};
 
 use crate::fault::ServeFault;
-use crate::limits::PAGE_WEIGHT;
 use crate::makers::Makers;
 use ic_book::Book;
 use ic_disk::Disk;
@@ -30,20 +28,25 @@ use std::alloc::Global;
 use std::sync::Wait;
 use std::thread::Threads;
 
-/// Begins a new page where the entries of this one weigh too much, so that one more event can come.
-pub(crate) fn make_room<D: Disk>(alloc: Global, book: &mut Book<D>) -> Result<(), ServeFault>
-    ensures stays { StaysPut book.old book.new }
+/// Begins a new page where the entries of this one weigh so much, so that one more event can come.
+pub(crate) fn make_room<D: Disk>(
+    alloc: Global,
+    book: &mut Book<D>,
+    limit: u64,
+) -> Result<(), ServeFault>
+    requires limit { IsLimit limit }
+    ensures stays { StaysPut limit book.old book.new }
     ensures fault { FaultLeaves ComesInLine result book.old book.new }
     ensures alone { IfErr result ComesAlone }
     ensures fewer { unkept_of book.new ≤ unkept_of book.old }
     ensures comes { IfErr result ComesWithoutRound }
     ensures broken { is_broken book.old ≡ true → IfErr result ComesBroken }
     ensures still { OnOk result (is_broken book.new ≡ is_broken book.old) }
-    ensures spare { OnOk result (HasSpare book.new) }
+    ensures spare { OnOk result (HasSpare limit book.new) }
     ensures short { OnOk result (length (log_of book.new) < MAX_ENTRIES) }
-    ensures idle { HasSpare book.old → IsOk result }
-    ensures room { HasSpare book.old → IsUnchanged book.old book.new }
-    ensures turned { PAGE_WEIGHT ≤ weight_of (log_of book.old)
+    ensures idle { HasSpare limit book.old → IsOk result }
+    ensures room { HasSpare limit book.old → IsUnchanged book.old book.new }
+    ensures turned { limit ≤ weight_of (log_of book.old)
         → OnOk result (log_of book.new ≡ []) }
     ensures worn { OnOk result (number_of book.old ≡ 2 ^ 64 - 1
         → number_of book.new ≡ 2 ^ 64 - 1) }
@@ -51,7 +54,7 @@ pub(crate) fn make_room<D: Disk>(alloc: Global, book: &mut Book<D>) -> Result<()
 {
     book.facts();
     let weight = book.weight();
-    if weight < PAGE_WEIGHT {
+    if weight < limit {
         return Ok(());
     }
     book.new_page(alloc)?;
@@ -88,22 +91,25 @@ pub fn keep_all<D: Disk>(book: &mut Book<D>) -> Result<(), ServeFault>
 }
 
 /// Makes the round of the job that is due from a place on, or halts it where it can't make one, for a
-/// loop of one's own. Answers its place, or none where nothing is due. The round isn't kept yet.
+/// loop of one's own. Answers its place, or none where nothing is due. A page that weighs `limit` ends
+/// before. The round isn't kept yet.
 pub fn make_round<T: Threads + Wait + Copy + Send + 'static, D: Disk>(
     rt: &T,
     alloc: Global,
     book: &mut Book<D>,
     after: usize,
     workers: usize,
+    limit: u64,
     makers: &mut Makers,
 ) -> Result<Option<usize>, ServeFault>
-    requires { 1 ≤ workers }
+    requires workers { 1 ≤ workers }
+    requires limit { IsLimit limit }
     ensures idle { IfOk result (λ place. IfNone place (due (table_of book.old) after ≡ None)) }
     ensures stays { IfOk result (λ place. IfNone place (IsUnchanged book.old book.new)) }
     ensures made { IfOk result (λ place. IfSome place (λ here.
-        MakesRound after here book.old book.new)) }
+        MakesRound limit after here book.old book.new)) }
     ensures low { IfOk result (λ place. IfSome place (λ here. here < MAX_JOBS)) }
-    ensures refused { OnErr result (StaysPut book.old book.new) }
+    ensures refused { OnErr result (StaysPut limit book.old book.new) }
     ensures broken { IsErrOf result (ServeFault.Book of_book.Broken)
         ↔ (is_broken book.old ≡ true) }
     ensures nothing { due (table_of book.old) after ≡ None → IfErr result (λ fault.
@@ -113,7 +119,7 @@ pub fn make_round<T: Threads + Wait + Copy + Send + 'static, D: Disk>(
     ensures fault { FaultLeaves ComesInLine result book.old book.new }
     ensures alone { workers ≡ 1 → IfErr result ComesAlone }
     ensures one { unkept_of book.new ≤ unkept_of book.old + 1 }
-    ensures still { HasSpare book.old → keeper_of book.new ≡ keeper_of book.old }
+    ensures still { HasSpare limit book.old → keeper_of book.new ≡ keeper_of book.old }
     ensures crash { Leaves book.old book.new (IsKeptOrNow book.old) }
 {
     book.facts();
@@ -124,7 +130,7 @@ pub fn make_round<T: Threads + Wait + Copy + Send + 'static, D: Disk>(
     let Some(flight) = book.due(after)? else {
         return Ok(None);
     };
-    make_room(alloc, book)?;
+    make_room(alloc, book, limit)?;
     let place = flight.place();
     land_or_halt(rt, alloc, book, &flight, makers)?;
     Ok(Some(place))

@@ -10,7 +10,7 @@ ghost use Rattle.ic_book.specs.Moves.{keeps};
 ghost use Rattle.ic_book.specs.declared.fault.BookFault.TheVariants as of_book;
 ghost use Rattle.ic_serving.specs.Answered.{EndsWith};
 ghost use Rattle.ic_serving.specs.Faults.{ComesAlone, ComesBroken, ComesInLine, ComesUnmade, ComesWithoutRound};
-ghost use Rattle.ic_serving.specs.Grown.{CallsFew, IsSamePage, GoesOn, HasRoom};
+ghost use Rattle.ic_serving.specs.Grown.{CallsFew, IsLimit, IsSamePage, GoesOn, HasRoom};
 ghost use Rattle.ic_serving.specs.Moments.{FaultLeaves, Leaves, IsKeptOrNow};
 
 use crate::fault::ServeFault;
@@ -33,11 +33,13 @@ pub(crate) fn run<T: Threads + Wait + Copy + Send + 'static, D: Disk, G: Gate>(
     count: u64,
     workers: usize,
     every: u64,
+    limit: u64,
     gate: &G,
     makers: &mut Makers,
 ) -> Result<u64, ServeFault>
     requires workers { 1 ≤ workers }
     requires every { 1 ≤ every }
+    requires limit { IsLimit limit }
     ensures count { IfOk result (λ made. made ≡ length (turns count 0 (table_of book.old))) }
     ensures table { OnOk result
         (table_of book.new ≡ after_events (table_of book.old) (turns count 0 (table_of book.old))) }
@@ -45,9 +47,10 @@ pub(crate) fn run<T: Threads + Wait + Copy + Send + 'static, D: Disk, G: Gate>(
     ensures whole { OnOk result (is_broken book.new ≡ false) }
     ensures last { OnOk result (last_kept book.new ≡ table_of book.new) }
     ensures made { OnOk result (EndsWith keeps book.old book.new) }
-    ensures page { OnOk result (HasRoom (turns count 0 (table_of book.old)) book.old
+    ensures page { OnOk result (HasRoom limit (turns count 0 (table_of book.old)) book.old
         → GoesOn (turns count 0 (table_of book.old)) book.old book.new) }
-    ensures begun { OnErr result (Begins (turns count 0 (table_of book.old)) book.old book.new) }
+    ensures begun { OnErr result (Begins limit
+        (turns count 0 (table_of book.old)) book.old book.new) }
     ensures fault { FaultLeaves ComesInLine result book.old book.new }
     ensures idle { turns count 0 (table_of book.old) ≡ [] → IfErr result ComesWithoutRound }
     ensures unmade { IfErr result (λ fault. ComesUnmade fault ⊎ IsBeforeRound
@@ -56,11 +59,11 @@ pub(crate) fn run<T: Threads + Wait + Copy + Send + 'static, D: Disk, G: Gate>(
     ensures unbroken { OnOk result (is_broken book.old ≡ false) }
     ensures alone { workers ≡ 1 → IfErr result ComesAlone }
     ensures few_unkept { IsAllKept book.old → unkept_of book.new ≤ every }
-    ensures few_calls { CallsFew (turns count 0 (table_of book.old)) every book.old book.new }
+    ensures few_calls { CallsFew limit (turns count 0 (table_of book.old)) every book.old book.new }
     ensures crash { Leaves book.old book.new (IsKeptWithin (table_of book.old)
         (last_kept book.old) (turns count 0 (table_of book.old))) }
 {
-    let made = make_rounds(rt, alloc, book, count, workers, every, gate, makers)?;
+    let made = make_rounds(rt, alloc, book, count, workers, every, limit, gate, makers)?;
     keep_all(book)?;
     Ok(made)
 }
@@ -73,19 +76,22 @@ fn make_rounds<T: Threads + Wait + Copy + Send + 'static, D: Disk, G: Gate>(
     count: u64,
     workers: usize,
     every: u64,
+    limit: u64,
     gate: &G,
     makers: &mut Makers,
 ) -> Result<u64, ServeFault>
     requires workers { 1 ≤ workers }
     requires every { 1 ≤ every }
+    requires limit { IsLimit limit }
     ensures count { IfOk result (λ made. made ≡ length (turns count 0 (table_of book.old))) }
     ensures table { OnOk result
         (table_of book.new ≡ after_events (table_of book.old) (turns count 0 (table_of book.old))) }
     ensures within { OnOk result (IsKeptWithin (table_of book.old) (last_kept book.old)
         (turns count 0 (table_of book.old)) (last_kept book.new)) }
-    ensures page { OnOk result (HasRoom (turns count 0 (table_of book.old)) book.old
+    ensures page { OnOk result (HasRoom limit (turns count 0 (table_of book.old)) book.old
         → GoesOn (turns count 0 (table_of book.old)) book.old book.new) }
-    ensures begun { OnErr result (Begins (turns count 0 (table_of book.old)) book.old book.new) }
+    ensures begun { OnErr result (Begins limit
+        (turns count 0 (table_of book.old)) book.old book.new) }
     ensures fault { FaultLeaves ComesInLine result book.old book.new }
     ensures idle { turns count 0 (table_of book.old) ≡ [] → IfErr result ComesWithoutRound }
     ensures unmade { IfErr result (λ fault. ComesUnmade fault ⊎ IsBeforeRound
@@ -94,7 +100,7 @@ fn make_rounds<T: Threads + Wait + Copy + Send + 'static, D: Disk, G: Gate>(
     ensures still { is_broken book.old ≡ true → OnOk result (is_broken book.new ≡ true) }
     ensures alone { workers ≡ 1 → IfErr result ComesAlone }
     ensures few_unkept { IsAllKept book.old → unkept_of book.new ≤ every }
-    ensures few_calls { HasRoom (turns count 0 (table_of book.old)) book.old
+    ensures few_calls { HasRoom limit (turns count 0 (table_of book.old)) book.old
         → D.clock (disk_of book.new) ≤ D.clock (disk_of book.old)
         + 6 * (length (turns count 0 (table_of book.old)) / every) }
     ensures crash { Leaves book.old book.new (IsKeptWithin (table_of book.old)
@@ -106,7 +112,7 @@ fn make_rounds<T: Threads + Wait + Copy + Send + 'static, D: Disk, G: Gate>(
     let mut place = 0;
     for made in 0..count {
         let _jobs = book.table().jobs();
-        match make_round(rt, alloc, book, place, workers, makers)? {
+        match make_round(rt, alloc, book, place, workers, limit, makers)? {
             None => return Ok(made),
             Some(last) => place = last + 1,
         }

@@ -15,6 +15,7 @@ ghost use Rattle.ic_serving.specs.Faults.{ComesAlone, ComesBroken, ComesInLine, 
 ghost use Rattle.ic_serving.specs.Booked.{unkept_of, IsAllKept};
 ghost use Rattle.ic_serving.specs.Moments.{FaultLeaves};
 ghost use Rattle.ic_serving.specs.Served.{OfLines, IsReadOut};
+ghost use Rattle.ic_serving.specs.Grown.{IsLimit};
 ghost use Rattle.ic_serving.specs.Serving.{IsServing};
 
 use crate::answering::{Reading, answer_read, read_line};
@@ -39,8 +40,9 @@ use std::thread::Threads;
 /// were read already, at most `group` lines at once: their commands are done, one keep keeps what they
 /// leave, and then their answers are written. A round is made by at most so many workers, and by one
 /// where it is small. Rounds are kept after each `every` of them; what a line leaves is kept before the
-/// line is answered. Answers are flushed before the reader is waited for, before a `run`, and before each
-/// command but `fetch` and `list`. Workers that stand for large rounds are joined before it returns.
+/// line is answered. A page of the history ends once its entries weigh `limit`. Answers are flushed before
+/// the reader is waited for, before a `run`, and before each command but `fetch` and `list`. Workers that
+/// stand for large rounds are joined before it returns.
 ///
 /// At a fault the lines before it are answered, except at a fault of the writer. The line at which it
 /// came, and those that were to be answered with it, aren't answered, though some of their events may
@@ -54,12 +56,14 @@ pub fn serve_lines<T: Threads + Wait + Copy + Send + 'static, D: Disk, R: Read, 
     workers: usize,
     every: u64,
     group: usize,
+    limit: u64,
 ) -> Result<(), ServeFault>
     requires workers { 1 ≤ workers }
     requires every { 1 ≤ every }
     requires group { 1 ≤ group }
+    requires limit { IsLimit limit }
     // There are lines of which all this holds: those of the reader's bytes, where it tells them.
-    ensures serving { OfLines (R.remaining reader.old) (λ ls. IsServing group result ls
+    ensures serving { OfLines (R.remaining reader.old) (λ ls. IsServing limit group result ls
         book.old book.new (W.contents writer.old) (W.contents writer.new)) }
     ensures over { OnOk result (IsReadOut (R.remaining reader.old) (R.remaining reader.new)) }
     ensures fault { FaultLeaves MayCome result book.old book.new }
@@ -69,7 +73,7 @@ pub fn serve_lines<T: Threads + Wait + Copy + Send + 'static, D: Disk, R: Read, 
     ensures few_unkept { IsAllKept book.old → unkept_of book.new ≤ max every group }
 {
     serve_watched(
-        rt, alloc, book, reader, writer, workers, every, group, &OpenGate,
+        rt, alloc, book, reader, writer, workers, every, group, limit, &OpenGate,
     )
 }
 
@@ -90,12 +94,14 @@ pub fn serve_watched<
     workers: usize,
     every: u64,
     group: usize,
+    limit: u64,
     gate: &G,
 ) -> Result<(), ServeFault>
     requires workers { 1 ≤ workers }
     requires every { 1 ≤ every }
     requires group { 1 ≤ group }
-    ensures serving { OfLines (R.remaining reader.old) (λ ls. IsServing group result ls
+    requires limit { IsLimit limit }
+    ensures serving { OfLines (R.remaining reader.old) (λ ls. IsServing limit group result ls
         book.old book.new (W.contents writer.old) (W.contents writer.new)) }
     ensures over { OnOk result (IsReadOut (R.remaining reader.old) (R.remaining reader.new)) }
     ensures fault { FaultLeaves MayCome result book.old book.new }
@@ -115,6 +121,7 @@ pub fn serve_watched<
         workers,
         every,
         group,
+        limit,
         gate,
         &mut lines,
         &mut makers,
@@ -134,6 +141,7 @@ fn serve_with<T: Threads + Wait + Copy + Send + 'static, D: Disk, R: Read, W: Wr
     workers: usize,
     every: u64,
     group: usize,
+    limit: u64,
     gate: &G,
     lines: &mut LineBuffer,
     makers: &mut Makers,
@@ -141,8 +149,9 @@ fn serve_with<T: Threads + Wait + Copy + Send + 'static, D: Disk, R: Read, W: Wr
     requires workers { 1 ≤ workers }
     requires every { 1 ≤ every }
     requires group { 1 ≤ group }
+    requires limit { IsLimit limit }
     requires empty { lines.old.ahead ≡ [] }
-    ensures serving { OfLines (R.remaining reader.old) (λ ls. IsServing group result ls
+    ensures serving { OfLines (R.remaining reader.old) (λ ls. IsServing limit group result ls
         book.old book.new (W.contents writer.old) (W.contents writer.new)) }
     ensures over { OnOk result (IsReadOut (R.remaining reader.old) (R.remaining reader.new)) }
     ensures fault { FaultLeaves MayCome result book.old book.new }
@@ -163,7 +172,7 @@ fn serve_with<T: Threads + Wait + Copy + Send + 'static, D: Disk, R: Read, W: Wr
         let reading = begin_line(alloc, lines.line(), group, writer)?;
         let most = group.min(left);
         let answered = answer_next(
-            rt, alloc, book, reading, lines, workers, every, most, gate, makers,
+            rt, alloc, book, reading, lines, workers, every, most, limit, gate, makers,
         )?;
         book.facts();
         left -= answered.count;
@@ -217,6 +226,7 @@ fn answer_next<T: Threads + Wait + Copy + Send + 'static, D: Disk, G: Gate>(
     workers: usize,
     every: u64,
     most: usize,
+    limit: u64,
     gate: &G,
     makers: &mut Makers,
 ) -> Result<Answered, ServeFault>
@@ -224,8 +234,9 @@ fn answer_next<T: Threads + Wait + Copy + Send + 'static, D: Disk, G: Gate>(
     requires every { 1 ≤ every }
     requires some { 1 ≤ most }
     requires few { most ≤ MAX_LINES }
+    requires limit { IsLimit limit }
     requires reads { ReadsLine lines.old.line reading }
-    ensures answered { IfOk result (λ group. IsNextAnswered most lines.old lines.new
+    ensures answered { IfOk result (λ group. IsNextAnswered limit most lines.old lines.new
         group.answers.items group.count book.old book.new) }
     ensures begun { IfErr result (λ fault. IsNextBegun most lines.old lines.new fault
         book.old book.new) }
@@ -238,9 +249,11 @@ fn answer_next<T: Threads + Wait + Copy + Send + 'static, D: Disk, G: Gate>(
     ic_commands::laws::one_line_reading();
     ic_lines::laws::lines_are_served_in_one_way();
     match command_of(reading) {
-        Ok(command) => answer_group(alloc, book, command, lines, most),
+        Ok(command) => answer_group(alloc, book, command, lines, most, limit),
         Err(reading) => {
-            let answers = answer_read(rt, alloc, book, reading, workers, every, gate, makers)?;
+            let answers = answer_read(
+                rt, alloc, book, reading, workers, every, limit, gate, makers,
+            )?;
             Ok(Answered { answers, count: 1 })
         }
     }

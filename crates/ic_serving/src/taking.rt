@@ -10,10 +10,10 @@ ghost use Rattle.ic_text.specs.declared.limits.TheConstants.{MAX_TEXT};
 ghost use Rattle.ic_serving.specs.Booked.{last_kept, unkept_of, Begins};
 ghost use Rattle.ic_serving.specs.Parts.{IsKeptWithin};
 ghost use Rattle.ic_serving.specs.Answered.{IsTaken};
-ghost use Rattle.ic_serving.specs.Grown.{GoesOn, HasRoom, HasSpare};
+ghost use Rattle.ic_serving.specs.Grown.{GoesOn, HasRoom, HasSpare, IsLimit};
 ghost use Rattle.ic_serving.specs.Moments.{FaultLeaves, Leaves};
 ghost use Rattle.ic_book.specs.Weight.{weight, weight_of};
-ghost use Rattle.ic_serving.specs.declared.limits.TheConstants.{MAX_LINES, PAGE_WEIGHT};
+ghost use Rattle.ic_serving.specs.declared.limits.TheConstants.{MAX_LINES};
 ghost use Rattle.ic_serving.specs.inner.Group.{TakesReady};
 ghost use Rattle.ic_serving.specs.Faults.{ComesAlone, ComesBroken, ComesInLine, ComesWithoutRound};
 
@@ -35,18 +35,20 @@ pub(crate) struct Answered {
 }
 
 /// Does what a command asks, and answers what is to be written for it once a keep has kept it, for a
-/// loop of one's own. Where the page is full, what came before is kept and a page begins.
+/// loop of one's own. Where the page weighs `limit`, what came before is kept and a page begins.
 pub fn take_command<D: Disk>(
     alloc: Global,
     book: &mut Book<D>,
     command: Command,
+    limit: u64,
 ) -> Result<Vec<u8>, ServeFault>
+    requires limit { IsLimit limit }
     ensures whole { OnOk result (is_broken book.new ≡ false) }
     ensures taken { IfOk result (λ bytes. IsTaken command bytes.items book.old book.new) }
     ensures fresh { OnOk result (number_of book.old ≢ 2 ^ 64 - 1) }
-    ensures page { OnOk result (HasRoom (by_command command ∷ []) book.old
+    ensures page { OnOk result (HasRoom limit (by_command command ∷ []) book.old
         → GoesOn (by_command command ∷ []) book.old book.new) }
-    ensures begun { Begins (by_command command ∷ []) book.old book.new }
+    ensures begun { Begins limit (by_command command ∷ []) book.old book.new }
     ensures fault { FaultLeaves ComesInLine result book.old book.new }
     ensures comes { IfErr result ComesWithoutRound }
     ensures broken { is_broken book.old ≡ true → IfErr result ComesBroken }
@@ -54,12 +56,12 @@ pub fn take_command<D: Disk>(
     ensures alone { IfErr result ComesAlone }
     ensures few_unkept { unkept_of book.new ≤ unkept_of book.old + 1 }
     ensures bounded { OnOk result (weight_of (log_of book.new)
-        < PAGE_WEIGHT + weight (by_command command)) }
-    ensures still { HasSpare book.old → keeper_of book.new ≡ keeper_of book.old }
+        < limit + weight (by_command command)) }
+    ensures still { HasSpare limit book.old → keeper_of book.new ≡ keeper_of book.old }
     ensures crash { Leaves book.old book.new (IsKeptWithin (table_of book.old)
         (last_kept book.old) (by_command command ∷ [])) }
 {
-    make_room(alloc, book)?;
+    make_room(alloc, book, limit)?;
     book.facts();
     let reply = book.take(alloc, 0, command)?;
     book.facts();
@@ -76,7 +78,8 @@ pub(crate) fn take_ready<D: Disk>(
     group: &mut Answered,
 ) -> Result<(), ServeFault>
     requires { group.old.count + most ≤ MAX_LINES }
-    ensures taken { TakesReady most (is_ok result) lines.old lines.new group.old.answers.items
+    ensures taken { (limit : ℕ) → TakesReady limit most
+        (is_ok result) lines.old lines.new group.old.answers.items
         group.new.answers.items group.old.count group.new.count book.old book.new }
     ensures keeper { keeper_of book.new ≡ keeper_of book.old }
     ensures fault { IfErr result (λ fault. fault ≡ ServeFault.Memory) }
@@ -98,7 +101,8 @@ fn take_next<D: Disk>(
     group: &mut Answered,
 ) -> Result<bool, ServeFault>
     requires { group.old.count < MAX_LINES }
-    ensures taken { TakesReady 1 (is_ok result) lines.old lines.new group.old.answers.items
+    ensures taken { (limit : ℕ) → TakesReady limit 1
+        (is_ok result) lines.old lines.new group.old.answers.items
         group.new.answers.items group.old.count group.new.count book.old book.new }
     ensures fault { IfErr result (λ fault. fault ≡ ServeFault.Memory) }
 {

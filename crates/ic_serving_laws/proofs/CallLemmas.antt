@@ -23,8 +23,8 @@ few_of_run n k every old new some few calls =
     six_parts (n / every) (k / every) old new
     (le-div (n / every) k every some (front_below (n / every * every) (n % every) n k (div-add-mod' n every) few)) calls
 
-pub has_room : (log n k weight : ℕ) → weight ≡ n → n ≤ k → log + k < 65536 → log + weight < 65536
-has_room log n k weight each few room = omega (arith, each, few, room)
+pub has_room : (limit log n k weight : ℕ) → weight ≡ n → n ≤ k → log + k < limit → log + weight < limit
+has_room limit log n k weight each few room = omega (arith, each, few, room)
 
 first_weighs : (after : ℕ → List JobParts → List Event) (t : List JobParts) (o : Option FlightParts)
     → ((f : FlightParts) → weigh (after (f.place + 1) (table_after t (Round f.name))) ≡ length (after (f.place + 1) (table_after t (Round f.name))))

@@ -73,45 +73,45 @@ module _ {D : Type 0} {ghosts : Ghosts D} where
       let rest = taken_calls cs taken.2 taken.0 last taken.5 in
       (by_calls_then first taken.0 last own rest.0, then_moves first taken.0 last own rest.0 ∙ ap (λ (ms : List Move). ms ++ own.moves) rest.1)
 
-  pub at_once_calls : (ls : List (List ℕ)) (bytes : List ℕ) (old new : Book D ghosts) (is : AreAnsweredAtOnce ls bytes old new)
-      → (done : IsByCalls old new) × (done.moves ≡ moves_at_once ls bytes old new is)
-  at_once_calls ls bytes old new (by_line line one is) = (calls_for is.reading bytes old new is.done, refl)
-  at_once_calls ls bytes old new (by_group g) =
+  pub at_once_calls : (limit : ℕ) (ls : List (List ℕ)) (bytes : List ℕ) (old new : Book D ghosts) (is : AreAnsweredAtOnce limit ls bytes old new)
+      → (done : IsByCalls old new) × (done.moves ≡ moves_at_once limit ls bytes old new is)
+  at_once_calls limit ls bytes old new (by_line line one is) = (calls_for is.reading bytes old new is.done, refl)
+  at_once_calls limit ls bytes old new (by_group g) =
       let keep = g.kept.done in
       let front = taken_calls g.commands bytes old g.between g.taken in
       (by_calls_then old g.between new front.0 keep, then_moves old g.between new front.0 keep ∙ ap (λ (ms : List Move). keep.moves ++ ms) front.1)
 
   -- groups that were answered in turn, and what is done after some of them
-  pub reaches_turns : (moves : List Move) (groups : List (List (List ℕ))) (first last : Book D ghosts) (turns : AreAnsweredInTurn groups first last) → Reaches moves (up first)
-      → Reaches (moves_in_turn groups first last turns ++ moves) (up last)
-  reaches_turns moves [] first last turns run = subst (λ (b : Book D ghosts). Reaches moves (up b)) (sym turns) run
-  reaches_turns moves (group ∷ groups) first last turns run =
-      let done = at_once_calls group turns.1 first turns.0 turns.2 in
-      let own = moves_at_once group turns.1 first turns.0 turns.2 in
-      let later = moves_in_turn groups turns.0 last turns.3 in
+  pub reaches_turns : (limit : ℕ) (moves : List Move) (groups : List (List (List ℕ))) (first last : Book D ghosts) (turns : AreAnsweredInTurn limit groups first last) → Reaches moves (up first)
+      → Reaches (moves_in_turn limit groups first last turns ++ moves) (up last)
+  reaches_turns limit moves [] first last turns run = subst (λ (b : Book D ghosts). Reaches moves (up b)) (sym turns) run
+  reaches_turns limit moves (group ∷ groups) first last turns run =
+      let done = at_once_calls limit group turns.1 first turns.0 turns.2 in
+      let own = moves_at_once limit group turns.1 first turns.0 turns.2 in
+      let later = moves_in_turn limit groups turns.0 last turns.3 in
       subst (λ ms. Reaches ms (up last)) (ap (λ (ms : List Move). later ++ (ms ++ moves)) done.1 ∙ sym (append_assoc later own moves))
-      (reaches_turns (done.0.moves ++ moves) groups turns.0 last turns.3 (reaches_more moves first turns.0 done.0 run))
+      (reaches_turns limit (done.0.moves ++ moves) groups turns.0 last turns.3 (reaches_more moves first turns.0 done.0 run))
 
   -- and by themselves
-  pub turns_run : (groups : List (List (List ℕ))) (first last : Book D ghosts) (turns : AreAnsweredInTurn groups first last)
-      → Runs {ghosts = ghosts} (moves_in_turn groups first last turns) (up first) (up last)
-  turns_run [] first last turns = ap (λ (b : Book D ghosts). up b) turns
-  turns_run (group ∷ groups) first last turns =
-      let done = at_once_calls group turns.1 first turns.0 turns.2 in
-      let later = moves_in_turn groups turns.0 last turns.3 in
+  pub turns_run : (limit : ℕ) (groups : List (List (List ℕ))) (first last : Book D ghosts) (turns : AreAnsweredInTurn limit groups first last)
+      → Runs {ghosts = ghosts} (moves_in_turn limit groups first last turns) (up first) (up last)
+  turns_run limit [] first last turns = ap (λ (b : Book D ghosts). up b) turns
+  turns_run limit (group ∷ groups) first last turns =
+      let done = at_once_calls limit group turns.1 first turns.0 turns.2 in
+      let later = moves_in_turn limit groups turns.0 last turns.3 in
       subst (λ (ms : List Move). Runs {ghosts = ghosts} (later ++ ms) (up first) (up last)) done.1
-      (runs_join later done.0.moves (up first) (up turns.0) (up last) (calls_run done.0.moves first turns.0 done.0.calls) (turns_run groups turns.0 last turns.3))
+      (runs_join later done.0.moves (up first) (up turns.0) (up last) (calls_run done.0.moves first turns.0 done.0.calls) (turns_run limit groups turns.0 last turns.3))
 
-  pub turns_split : (front more : List (List (List ℕ))) (first last : Book D ghosts) → AreAnsweredInTurn (front ++ more) first last
-      → (mid : Book D ghosts) × AreAnsweredInTurn front first mid × AreAnsweredInTurn more mid last
-  turns_split [] more first last turns = (first, refl, turns)
-  turns_split (group ∷ front) more first last turns =
-      let rest = turns_split front more turns.0 last turns.3 in (rest.0, (turns.0, turns.1, turns.2, rest.1), rest.2)
+  pub turns_split : (limit : ℕ) (front more : List (List (List ℕ))) (first last : Book D ghosts) → AreAnsweredInTurn limit (front ++ more) first last
+      → (mid : Book D ghosts) × AreAnsweredInTurn limit front first mid × AreAnsweredInTurn limit more mid last
+  turns_split limit [] more first last turns = (first, refl, turns)
+  turns_split limit (group ∷ front) more first last turns =
+      let rest = turns_split limit front more turns.0 last turns.3 in (rest.0, (turns.0, turns.1, turns.2, rest.1), rest.2)
 
-  pub turns_calls : (groups : List (List (List ℕ))) (mid last new : Book D ghosts) → AreAnsweredInTurn groups mid last → IsByCalls last new → IsByCalls mid new
-  turns_calls [] mid last new turns done = subst (λ (b : Book D ghosts). IsByCalls b new) turns done
-  turns_calls (group ∷ groups) mid last new turns done =
-      by_calls_then mid turns.0 new (at_once_calls group turns.1 mid turns.0 turns.2).0 (turns_calls groups turns.0 last new turns.3 done)
+  pub turns_calls : (limit : ℕ) (groups : List (List (List ℕ))) (mid last new : Book D ghosts) → AreAnsweredInTurn limit groups mid last → IsByCalls last new → IsByCalls mid new
+  turns_calls limit [] mid last new turns done = subst (λ (b : Book D ghosts). IsByCalls b new) turns done
+  turns_calls limit (group ∷ groups) mid last new turns done =
+      by_calls_then mid turns.0 new (at_once_calls limit group turns.1 mid turns.0 turns.2).0 (turns_calls limit groups turns.0 last new turns.3 done)
 
   -- a stop in the midst of one
   stop_step : (move : Move) (before after : Book D ghosts) (found : D) → IsCall move before after → IsFound ghosts (disk_of before) (disk_of after) found
@@ -176,12 +176,12 @@ module _ {D : Type 0} {ghosts : Ghosts D} where
         (at.0, at.1, next, refused_so replays joins one content_is_image image_is_left left_is_image (at.0 ++ moves) cause after next)
 
     -- in the words of the lines
-    pub lines_stopped : {T : Type 0} (most : ℕ) (result : Result T ServeFault) (moves : List Move) (old new : Book D ghosts) (ls : List (List ℕ)) (before after : Option (List ℕ))
-        (serving : IsServing most result ls old new before after) (found : D) → Reaches moves (up old) → IsFound ghosts (disk_of old) (disk_of new) found
+    pub lines_stopped : (limit : ℕ) {T : Type 0} (most : ℕ) (result : Result T ServeFault) (moves : List Move) (old new : Book D ghosts) (ls : List (List ℕ)) (before after : Option (List ℕ))
+        (serving : IsServing limit most result ls old new before after) (found : D) → Reaches moves (up old) → IsFound ghosts (disk_of old) (disk_of new) found
         → (cut : List Move) × IsCutShort serving.crash.done.moves cut × Reaches {ghosts = ghosts} (cut ++ moves) (down found)
         × ((file : List ℕ) → ghosts.image found file → (t : List JobParts) × HoldsTable t file × MayStand (IsAllKept old) (last_kept old) (table_of old) ls t
         × (history : List Entry) × IsHistoryOf (cut ++ moves) history × (t ≡ replay [] history))
-    lines_stopped most result moves old new ls before after serving found run here =
+    lines_stopped limit most result moves old new ls before after serving found run here =
         let so = stopped_so moves old new serving.crash.done found run here in (
           so.0,
           so.1,
@@ -194,17 +194,17 @@ module _ {D : Type 0} {ghosts : Ghosts D} where
         )
 
     -- after any number of answered groups
-    pub turns_stopped : (moves : List Move) (old new : Book D ghosts) (found : D)
-        (most : ℕ) (all : List (List ℕ)) (served : AreServedInTurn most all old new) (front more : List (List (List ℕ))) → served.groups ≡ front ++ more → Reaches moves (up old)
-        → (mid : Book D ghosts) × (turns : AreAnsweredInTurn front old mid) × (others : AreAnsweredInTurn more mid served.between) × (later : IsByCalls mid new)
-        × Reaches (moves_in_turn front old mid turns ++ moves) (up mid)
+    pub turns_stopped : (limit : ℕ) (moves : List Move) (old new : Book D ghosts) (found : D)
+        (most : ℕ) (all : List (List ℕ)) (served : AreServedInTurn limit most all old new) (front more : List (List (List ℕ))) → served.groups ≡ front ++ more → Reaches moves (up old)
+        → (mid : Book D ghosts) × (turns : AreAnsweredInTurn limit front old mid) × (others : AreAnsweredInTurn limit more mid served.between) × (later : IsByCalls mid new)
+        × Reaches (moves_in_turn limit front old mid turns ++ moves) (up mid)
         × (IsFound ghosts (disk_of mid) (disk_of new) found → (cut : List Move) × IsCutShort later.moves cut
-        × Reaches {ghosts = ghosts} (cut ++ (moves_in_turn front old mid turns ++ moves)) (down found))
-    turns_stopped moves old new found most all served front more parted run =
-        let split = turns_split front more old served.between (subst (λ (xs : List (List (List ℕ))). AreAnsweredInTurn xs old served.between) parted served.answered) in
-        let later = turns_calls more split.0 served.between new split.2 served.after in
-        let there = reaches_turns moves front old split.0 split.1 run in
-        (split.0, split.1, split.2, later, there, λ here. stopped_so (moves_in_turn front old split.0 split.1 ++ moves) split.0 new later found there here)
+        × Reaches {ghosts = ghosts} (cut ++ (moves_in_turn limit front old mid turns ++ moves)) (down found))
+    turns_stopped limit moves old new found most all served front more parted run =
+        let split = turns_split limit front more old served.between (subst (λ (xs : List (List (List ℕ))). AreAnsweredInTurn limit xs old served.between) parted served.answered) in
+        let later = turns_calls limit more split.0 served.between new split.2 served.after in
+        let there = reaches_turns limit moves front old split.0 split.1 run in
+        (split.0, split.1, split.2, later, there, λ here. stopped_so (moves_in_turn limit front old split.0 split.1 ++ moves) split.0 new later found there here)
 
 -- ---- a command at which the disk failed
 

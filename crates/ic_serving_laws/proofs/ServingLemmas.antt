@@ -114,30 +114,30 @@ module _ {D : Type 0} {ghosts : Ghosts D} where
       (subst (λ (ms : List Move). StandAmong ((es ++ e ∷ []) ++ more) (told ms)) (sym (append_assoc later own moves)) all)
 
   -- before the keep of a group its commands were taken
-  pub group_taken : (ls : List (List ℕ)) (bytes : List ℕ) (old new : Book D ghosts) (g : IsGroupAnswered ls bytes old new)
-      → StandAmong (replies_at_once ls bytes old new (by_group g)) (told (g.kept.earlier ++ moves_taken g.commands bytes old g.between g.taken))
-  group_taken ls bytes old new g =
+  pub group_taken : (limit : ℕ) (ls : List (List ℕ)) (bytes : List ℕ) (old new : Book D ghosts) (g : IsGroupAnswered limit ls bytes old new)
+      → StandAmong (replies_at_once limit ls bytes old new (by_group g)) (told (g.kept.earlier ++ moves_taken g.commands bytes old g.between g.taken))
+  group_taken limit ls bytes old new g =
       let own = moves_taken g.commands bytes old g.between g.taken in
       let run : Calls {ghosts = ghosts} (keeps ∷ g.kept.earlier) g.between new = subst (λ (ms : List Move). Calls {ghosts = ghosts} ms g.between new) g.kept.last g.kept.done.calls in
-      let first : StandAmong (replies_at_once ls bytes old new (by_group g)) (told own) =
-      subst (λ (ms : List Move). StandAmong (replies_at_once ls bytes old new (by_group g)) (told ms)) (append-nil own)
+      let first : StandAmong (replies_at_once limit ls bytes old new (by_group g)) (told own) =
+      subst (λ (ms : List Move). StandAmong (replies_at_once limit ls bytes old new (by_group g)) (told ms)) (append-nil own)
       (taken_among g.commands bytes old g.between g.taken [] [] tt) in
-      told_more g.kept.earlier own (replies_at_once ls bytes old new (by_group g)) g.between run.0 run.1 first
+      told_more g.kept.earlier own (replies_at_once limit ls bytes old new (by_group g)) g.between run.0 run.1 first
 
-  at_once_among : (ls : List (List ℕ)) (bytes : List ℕ) (old new : Book D ghosts) (is : AreAnsweredAtOnce ls bytes old new)
-      → StandAmong (replies_at_once ls bytes old new is) (answered (moves_at_once ls bytes old new is))
-  at_once_among ls bytes old new (by_line line one is) = reply_among is.reading bytes old new is.done
-  at_once_among ls bytes old new (by_group g) =
+  at_once_among : (limit : ℕ) (ls : List (List ℕ)) (bytes : List ℕ) (old new : Book D ghosts) (is : AreAnsweredAtOnce limit ls bytes old new)
+      → StandAmong (replies_at_once limit ls bytes old new is) (answered (moves_at_once limit ls bytes old new is))
+  at_once_among limit ls bytes old new (by_line line one is) = reply_among is.reading bytes old new is.done
+  at_once_among limit ls bytes old new (by_group g) =
       let own = moves_taken g.commands bytes old g.between g.taken in
-      subst (λ (ms : List Move). StandAmong (replies_at_once ls bytes old new (by_group g)) (answered (ms ++ own))) (sym g.kept.last) (group_taken ls bytes old new g)
+      subst (λ (ms : List Move). StandAmong (replies_at_once limit ls bytes old new (by_group g)) (answered (ms ++ own))) (sym g.kept.last) (group_taken limit ls bytes old new g)
 
-  replies_among : (groups : List (List (List ℕ))) (first last : Book D ghosts) (turns : AreAnsweredInTurn groups first last)
-      → StandAmong (replies_in_turn groups first last turns) (answered (moves_in_turn groups first last turns))
-  replies_among [] first last turns = tt
-  replies_among (group ∷ groups) first last turns =
-      among_moves (replies_at_once group turns.1 first turns.0 turns.2) (replies_in_turn groups turns.0 last turns.3)
-      (moves_in_turn groups turns.0 last turns.3) (moves_at_once group turns.1 first turns.0 turns.2)
-      (at_once_among group turns.1 first turns.0 turns.2) (replies_among groups turns.0 last turns.3)
+  replies_among : (limit : ℕ) (groups : List (List (List ℕ))) (first last : Book D ghosts) (turns : AreAnsweredInTurn limit groups first last)
+      → StandAmong (replies_in_turn limit groups first last turns) (answered (moves_in_turn limit groups first last turns))
+  replies_among limit [] first last turns = tt
+  replies_among limit (group ∷ groups) first last turns =
+      among_moves (replies_at_once limit group turns.1 first turns.0 turns.2) (replies_in_turn limit groups turns.0 last turns.3)
+      (moves_in_turn limit groups turns.0 last turns.3) (moves_at_once limit group turns.1 first turns.0 turns.2)
+      (at_once_among limit group turns.1 first turns.0 turns.2) (replies_among limit groups turns.0 last turns.3)
 
   -- ---- of parts
 
@@ -148,7 +148,7 @@ module _ {D : Type 0} {ghosts : Ghosts D} where
       let replies = line_replies s in
       subst (λ (ms : List Move). StandAmong (es ++ replies) (answered ms)) (sym same)
       (among_earlier (es ++ replies) later (line_moves s ++ earlier)
-      (among_moves es replies (line_moves s) earlier first (replies_among s.front s.old s.answering s.first_lines)))
+      (among_moves es replies (line_moves s) earlier first (replies_among s.limit s.front s.old s.answering s.first_lines)))
 
   parts_among : (parts : List (Part ghosts)) (moves : List Move) → AreMovesOf parts moves → StandAmong (answered_by parts) (answered moves)
   parts_among [] moves are = tt
@@ -160,15 +160,16 @@ module _ {D : Type 0} {ghosts : Ghosts D} where
 
   -- ---- a call is a serving
 
-  pub call_serves : (old new : Book D ghosts) (most : ℕ) (result : Result (Unit {0}) ServeFault) (ls : List (List ℕ)) (before after : Option (List ℕ))
-      (serves : IsServing most result ls old new before after) (front more : List (List (List ℕ))) → serves.turns.groups ≡ front ++ more
+  pub call_serves : (limit : ℕ) (old new : Book D ghosts) (most : ℕ) (result : Result (Unit {0}) ServeFault) (ls : List (List ℕ)) (before after : Option (List ℕ))
+      (serves : IsServing limit most result ls old new before after) (front more : List (List (List ℕ))) → serves.turns.groups ≡ front ++ more
       → (serving : Serving ghosts) × (serving.old ≡ old) × (serving.new ≡ new) × (serving.ls ≡ ls) × (serving.result ≡ result) × (serving.front ≡ front)
-  call_serves old new most result ls before after serves front more parted =
+  call_serves limit old new most result ls before after serves front more parted =
       let between = serves.turns.between in
-      let split = turns_split front more old between (subst (λ (xs : List (List (List ℕ))). AreAnsweredInTurn xs old between) parted serves.turns.answered) in (
+      let split = turns_split limit front more old between (subst (λ (xs : List (List (List ℕ))). AreAnsweredInTurn limit xs old between) parted serves.turns.answered) in (
         record {
           old = old;
           new = new;
+          limit = limit;
           most = most;
           result = result;
           ls = ls;
@@ -195,10 +196,10 @@ module _ {D : Type 0} {ghosts : Ghosts D} where
       (image_is_left : (disk : D) (t : ℕ) (file : List ℕ) → t ≤ ghosts.clock disk → ghosts.image disk file → LeftSince (ghosts.left disk) t file)
       (left_is_image : (disk : D) (file : List ℕ) → LeftSince (ghosts.left disk) (ghosts.clock disk) file → ghosts.image disk file) where
     later_calls : (s : Serving ghosts) → IsByCalls s.answering s.new
-    later_calls s = turns_calls s.more s.answering s.serves.turns.between s.new s.other_lines s.serves.turns.after
+    later_calls s = turns_calls s.limit s.more s.answering s.serves.turns.between s.new s.other_lines s.serves.turns.after
 
     after_lines : (s : Serving ghosts) (moves : List Move) → Reaches moves (up s.old) → Reaches (line_moves s ++ moves) (up s.answering)
-    after_lines s moves run = reaches_turns moves s.front s.old s.answering s.first_lines run
+    after_lines s moves run = reaches_turns s.limit moves s.front s.old s.answering s.first_lines run
 
     pub parts_run : (parts : List (Part ghosts)) (first : D) (last : Server ghosts) → IsTrue (ghosts.keeps first) → Within (ghosts.image first) (HoldsTable [])
         → ArePartsOf parts (down first) last → (moves : List Move) × AreMovesOf parts moves × Reaches moves last

@@ -46,25 +46,25 @@ module _ {D : Type 0} {ghosts : Ghosts D} where
   no_entry (Ok (Run count)) bytes old new done none = refl
   no_entry (Err fault) bytes old new done none = refl
 
-  record RepliesAt (front back : List (List (List ℕ))) (group : List (List ℕ)) (first last : Book D ghosts) (turns : AreAnsweredInTurn (front ++ group ∷ back) first last) : Type 0 where
-    here : IsAnsweredBetween front group back first last
-    replies : replies_in_turn (front ++ group ∷ back) first last turns ≡ replies_in_turn front first here.before here.in_front
-        ++ (replies_at_once group here.bytes here.before here.after here.answered ++ replies_in_turn back here.after last here.later)
+  record RepliesAt (limit : ℕ) (front back : List (List (List ℕ))) (group : List (List ℕ)) (first last : Book D ghosts) (turns : AreAnsweredInTurn limit (front ++ group ∷ back) first last) : Type 0 where
+    here : IsAnsweredBetween limit front group back first last
+    replies : replies_in_turn limit (front ++ group ∷ back) first last turns ≡ replies_in_turn limit front first here.before here.in_front
+        ++ (replies_at_once limit group here.bytes here.before here.after here.answered ++ replies_in_turn limit back here.after last here.later)
 
-  replies_at : (front back : List (List (List ℕ))) (group : List (List ℕ)) (first last : Book D ghosts) (turns : AreAnsweredInTurn (front ++ group ∷ back) first last)
-      → RepliesAt front back group first last turns
-  replies_at [] back group first last turns = record {
+  replies_at : (limit : ℕ) (front back : List (List (List ℕ))) (group : List (List ℕ)) (first last : Book D ghosts) (turns : AreAnsweredInTurn limit (front ++ group ∷ back) first last)
+      → RepliesAt limit front back group first last turns
+  replies_at limit [] back group first last turns = record {
     here = record { before = first; after = turns.0; bytes = turns.1; in_front = refl; answered = turns.2; later = turns.3 };
     replies = refl;
   }
-  replies_at (one ∷ front) back group first last turns =
-      let rest = replies_at front back group turns.0 last turns.3 in
+  replies_at limit (one ∷ front) back group first last turns =
+      let rest = replies_at limit front back group turns.0 last turns.3 in
       let at = rest.here in
-      let own = replies_at_once one turns.1 first turns.0 turns.2 in
+      let own = replies_at_once limit one turns.1 first turns.0 turns.2 in
       record {
         here = record { before = at.before; after = at.after; bytes = at.bytes; in_front = (turns.0, turns.1, turns.2, at.in_front); answered = at.answered; later = at.later };
-        replies = ap (λ (es : List Entry). own ++ es) rest.replies ∙ sym (append_assoc own (replies_in_turn front turns.0 at.before at.in_front)
-            (replies_at_once group at.bytes at.before at.after at.answered ++ replies_in_turn back at.after last at.later));
+        replies = ap (λ (es : List Entry). own ++ es) rest.replies ∙ sym (append_assoc own (replies_in_turn limit front turns.0 at.before at.in_front)
+            (replies_at_once limit group at.bytes at.before at.after at.answered ++ replies_in_turn limit back at.after last at.later));
       }
 
   -- the commands that are taken, with their replies
@@ -78,57 +78,57 @@ module _ {D : Type 0} {ghosts : Ghosts D} where
         ap (λ (es : List Entry). command_entry 0 c is.4.reply ∷ es) rest.2,
       )
 
-  one_told : OneWay → (line bytes : List ℕ) (cs : List Command) (old new : Book D ghosts) (is : IsAnswered line bytes old new) → AskFor (line ∷ []) cs
+  one_told : (limit : ℕ) → OneWay → (line bytes : List ℕ) (cs : List Command) (old new : Book D ghosts) (is : IsAnswered limit line bytes old new) → AskFor (line ∷ []) cs
       → (replies : List Reply) × (bytes ≡ flat_map (λ (reply : Reply). line_of (reply_text reply)) replies) × (reply_for is.reading bytes old new is.done ≡ entries_of cs replies)
-  one_told law line bytes [] old new is asks = absurd asks
-  one_told law line bytes (c ∷ d ∷ cs) old new is asks = absurd asks.1
-  one_told law line bytes (c ∷ []) old new is asks =
+  one_told limit law line bytes [] old new is asks = absurd asks
+  one_told limit law line bytes (c ∷ d ∷ cs) old new is asks = absurd asks.1
+  one_told limit law line bytes (c ∷ []) old new is asks =
       let own = one_entry is.reading bytes old new is.done c (law line is.reading (Ok (Asks c)) is.read asks.0) in
       (own.0 ∷ [], own.1 ∙ sym (append-nil (line_of (reply_text own.0))), own.2)
 
-  at_once_told : OneWay → (group : List (List ℕ)) (bytes : List ℕ) (cs : List Command) (old new : Book D ghosts) (is : AreAnsweredAtOnce group bytes old new) → AskFor group cs
-      → (replies : List Reply) × (bytes ≡ flat_map (λ (reply : Reply). line_of (reply_text reply)) replies) × (replies_at_once group bytes old new is ≡ entries_of cs replies)
-  at_once_told law group bytes cs old new (by_line line one is) asks = one_told law line bytes cs old new is (subst (λ (ls : List (List ℕ)). AskFor ls cs) one asks)
-  at_once_told law group bytes cs old new (by_group g) asks =
+  at_once_told : (limit : ℕ) → OneWay → (group : List (List ℕ)) (bytes : List ℕ) (cs : List Command) (old new : Book D ghosts) (is : AreAnsweredAtOnce limit group bytes old new) → AskFor group cs
+      → (replies : List Reply) × (bytes ≡ flat_map (λ (reply : Reply). line_of (reply_text reply)) replies) × (replies_at_once limit group bytes old new is ≡ entries_of cs replies)
+  at_once_told limit law group bytes cs old new (by_line line one is) asks = one_told limit law line bytes cs old new is (subst (λ (ls : List (List ℕ)). AskFor ls cs) one asks)
+  at_once_told limit law group bytes cs old new (by_group g) asks =
       let own = taken_told g.commands bytes old g.between g.taken in
       (own.0, own.1, own.2 ∙ ap (λ (ds : List Command). entries_of ds own.0) (asks_one law group g.commands cs g.asked asks))
 
-  pub command_told : OneWay → (front back : List (List (List ℕ))) (group : List (List ℕ)) (commands : List Command)
-      (first last : Book D ghosts) (turns : AreAnsweredInTurn (front ++ group ∷ back) first last) → AskFor group commands
-      → (here : IsAnsweredBetween front group back first last) × (replies : List Reply) × (here.bytes ≡ flat_map (λ (reply : Reply). line_of (reply_text reply)) replies)
-      × (replies_in_turn (front ++ group ∷ back) first last turns
-      ≡ replies_in_turn front first here.before here.in_front ++ (entries_of commands replies ++ replies_in_turn back here.after last here.later))
-  command_told law front back group commands first last turns asks =
-      let is = replies_at front back group first last turns in
+  pub command_told : (limit : ℕ) → OneWay → (front back : List (List (List ℕ))) (group : List (List ℕ)) (commands : List Command)
+      (first last : Book D ghosts) (turns : AreAnsweredInTurn limit (front ++ group ∷ back) first last) → AskFor group commands
+      → (here : IsAnsweredBetween limit front group back first last) × (replies : List Reply) × (here.bytes ≡ flat_map (λ (reply : Reply). line_of (reply_text reply)) replies)
+      × (replies_in_turn limit (front ++ group ∷ back) first last turns
+      ≡ replies_in_turn limit front first here.before here.in_front ++ (entries_of commands replies ++ replies_in_turn limit back here.after last here.later))
+  command_told limit law front back group commands first last turns asks =
+      let is = replies_at limit front back group first last turns in
       let at = is.here in
-      let own = at_once_told law group at.bytes commands at.before at.after at.answered asks in (
+      let own = at_once_told limit law group at.bytes commands at.before at.after at.answered asks in (
         at,
         own.0,
         own.1,
-        is.replies ∙ ap (λ (es : List Entry). replies_in_turn front first at.before at.in_front ++ (es ++ replies_in_turn back at.after last at.later)) own.2,
+        is.replies ∙ ap (λ (es : List Entry). replies_in_turn limit front first at.before at.in_front ++ (es ++ replies_in_turn limit back at.after last at.later)) own.2,
       )
 
   -- a line that asks for no command tells none
-  none_told : (group : List (List ℕ)) (line bytes : List ℕ) (old new : Book D ghosts) (is : AreAnsweredAtOnce group bytes old new) → group ≡ line ∷ []
-      → ((command : Command) → ¬ ReadsLine line (Ok (Asks command))) → replies_at_once group bytes old new is ≡ []
-  none_told group line bytes old new (by_line text one is) same none =
+  none_told : (limit : ℕ) (group : List (List ℕ)) (line bytes : List ℕ) (old new : Book D ghosts) (is : AreAnsweredAtOnce limit group bytes old new) → group ≡ line ∷ []
+      → ((command : Command) → ¬ ReadsLine line (Ok (Asks command))) → replies_at_once limit group bytes old new is ≡ []
+  none_told limit group line bytes old new (by_line text one is) same none =
       let alike : text ≡ line = cc in
       no_entry is.reading bytes old new is.done (λ command reads. none command (subst (λ (l : List ℕ). ReadsLine l (Ok (Asks command))) alike (subst (λ (r : Reading). ReadsLine text r) reads is.read)))
-  none_told group line bytes old new (by_group g) same none = no_command g.commands bytes old g.between g.taken (subst (λ (ls : List (List ℕ)). AskFor ls g.commands) same g.asked)
+  none_told limit group line bytes old new (by_group g) same none = no_command g.commands bytes old g.between g.taken (subst (λ (ls : List (List ℕ)). AskFor ls g.commands) same g.asked)
     where
       no_command : (cs : List Command) (xs : List ℕ) (first last : Book D ghosts) (taken : AreTaken cs xs first last) → AskFor (line ∷ []) cs → replies_taken cs xs first last taken ≡ []
       no_command [] xs first last taken asks = refl
       no_command (c ∷ cs) xs first last taken asks = absurd (none c asks.0)
 
-  pub other_told : (front back : List (List (List ℕ))) (line : List ℕ) (first last : Book D ghosts) (turns : AreAnsweredInTurn (front ++ (line ∷ []) ∷ back) first last)
-      → ((command : Command) → ¬ ReadsLine line (Ok (Asks command))) → (here : IsAnsweredBetween front (line ∷ []) back first last)
-      × (replies_in_turn (front ++ (line ∷ []) ∷ back) first last turns ≡ replies_in_turn front first here.before here.in_front ++ replies_in_turn back here.after last here.later)
-  other_told front back line first last turns none =
-      let is = replies_at front back (line ∷ []) first last turns in
+  pub other_told : (limit : ℕ) (front back : List (List (List ℕ))) (line : List ℕ) (first last : Book D ghosts) (turns : AreAnsweredInTurn limit (front ++ (line ∷ []) ∷ back) first last)
+      → ((command : Command) → ¬ ReadsLine line (Ok (Asks command))) → (here : IsAnsweredBetween limit front (line ∷ []) back first last)
+      × (replies_in_turn limit (front ++ (line ∷ []) ∷ back) first last turns ≡ replies_in_turn limit front first here.before here.in_front ++ replies_in_turn limit back here.after last here.later)
+  other_told limit front back line first last turns none =
+      let is = replies_at limit front back (line ∷ []) first last turns in
       let at = is.here in
-      let own = none_told (line ∷ []) line at.bytes at.before at.after at.answered refl none in (
+      let own = none_told limit (line ∷ []) line at.bytes at.before at.after at.answered refl none in (
         at,
-        is.replies ∙ ap (λ (es : List Entry). replies_in_turn front first at.before at.in_front ++ (es ++ replies_in_turn back at.after last at.later)) own,
+        is.replies ∙ ap (λ (es : List Entry). replies_in_turn limit front first at.before at.in_front ++ (es ++ replies_in_turn limit back at.after last at.later)) own,
       )
 
   -- ---- what parts tell

@@ -26,32 +26,33 @@ entries_of (command ∷ commands) (reply ∷ replies) =
 
 -- A group of lines was answered between others: those in front of it led to the book `before`, and those
 -- after it on from the book `after`.
-pub record IsAnsweredBetween {D : Type 0} {ghosts : Ghosts D} (front : List (List (List ℕ)))
+pub record IsAnsweredBetween {D : Type 0} {ghosts : Ghosts D} (limit : ℕ) (front : List (List (List ℕ)))
     (group : List (List ℕ)) (back : List (List (List ℕ))) (first last : Book D ghosts) : Type 0 where
   pub before : Book D ghosts
   pub after : Book D ghosts
   pub bytes : List ℕ
-  pub in_front : AreAnsweredInTurn front first before
-  pub answered : AreAnsweredAtOnce group bytes before after
-  pub later : AreAnsweredInTurn back after last
+  pub in_front : AreAnsweredInTurn limit front first before
+  pub answered : AreAnsweredAtOnce limit group bytes before after
+  pub later : AreAnsweredInTurn limit back after last
 
 -- A serving is what a call of `serve_lines` says of its two books, or would say. Some of the groups of
 -- lines that it answers come first, and lead to the book `answering`; the others lead on from there.
 pub record Serving {D : Type 0} (ghosts : Ghosts D) : Type 0 where
   pub old : Book D ghosts
   pub new : Book D ghosts
+  pub limit : ℕ
   pub most : ℕ
   pub result : Result (Unit {0}) ServeFault
   pub ls : List (List ℕ)
   pub before : Option (List ℕ)
   pub after : Option (List ℕ)
-  pub serves : IsServing most result ls old new before after
+  pub serves : IsServing limit most result ls old new before after
   pub front : List (List (List ℕ))
   pub more : List (List (List ℕ))
   pub parted : serves.turns.groups ≡ front ++ more
   pub answering : Book D ghosts
-  pub first_lines : AreAnsweredInTurn front old answering
-  pub other_lines : AreAnsweredInTurn more answering serves.turns.between
+  pub first_lines : AreAnsweredInTurn limit front old answering
+  pub other_lines : AreAnsweredInTurn limit more answering serves.turns.between
 
 -- A part of a run: a serving that has ended, a serving in which a stop came after its first lines, or
 -- any other moves, which lead to this server.
@@ -76,11 +77,11 @@ ArePartsOf {ghosts = g} (other moves server ∷ parts) first last =
 
 -- the moves of the first lines of a serving
 abbrev pub line_moves : {D : Type 0} {ghosts : Ghosts D} → Serving ghosts → List Move
-line_moves s = moves_in_turn s.front s.old s.answering s.first_lines
+line_moves s = moves_in_turn s.limit s.front s.old s.answering s.first_lines
 
 -- the commands of these lines with the replies that answered them, in order
 abbrev pub line_replies : {D : Type 0} {ghosts : Ghosts D} → Serving ghosts → List Entry
-line_replies s = replies_in_turn s.front s.old s.answering s.first_lines
+line_replies s = replies_in_turn s.limit s.front s.old s.answering s.first_lines
 
 -- The moves of these parts. In a serving those of its first lines come first; after them it makes
 -- calls of the book, or a stop cuts these short.

@@ -38,8 +38,9 @@ pub fn a_keep_makes_few_calls<D: Disk>(old: &Book<D>, new: &Book<D>)
 /// Where the page has room for K rounds and one more, a `run` of K rounds makes at most six calls to
 /// the disk for each `every` of them, and six at the end.
 pub fn a_run_makes_few_calls<D: Disk>(before: &Book<D>, after: &Book<D>)
-    ensures { (line : List ℕ) (k every : ℕ) → 1 ≤ every → ReadsLine line (Ok (Run k))
-        → CallsFewFor line every before.now after.now → weight_of (log_of before.now) + k < 65536
+    ensures { (limit : ℕ) (line : List ℕ) (k every : ℕ) → 1 ≤ every → ReadsLine line (Ok (Run k))
+        → CallsFewFor limit line every before.now after.now
+        → weight_of (log_of before.now) + k < limit
         → D.clock (disk_of after.now) ≤ D.clock (disk_of before.now) + 6 * (k / every + 1) }
 {
     ic_commands::laws::one_line_reading();

@@ -221,17 +221,20 @@ pub fn a_fault_ends_a_serving()
 /// at a command, and one at a run only where a round is due. Unless memory ran out, it comes at a
 /// round that can be made, and leaves the table before that round.
 pub fn a_fault_comes_for_what_a_line_asks<D: Disk>(before: &Book<D>, after: &Book<D>)
-    ensures blank { (line : List ℕ) (fault : ServeFault) → ReadsLine line (Ok Blank)
-        → IsBegun line fault before.now after.now → fault ≡ Memory }
-    ensures refused { (line : List ℕ) (why : TextFault) (fault : ServeFault)
-        → ReadsLine line (Err why) → IsBegun line fault before.now after.now → fault ≡ Memory }
-    ensures command { (line : List ℕ) (c : Command) (fault : PoolFault)
-        → ReadsLine line (Ok (Asks c)) → ¬ IsBegun line (Pool fault) before.now after.now }
-    ensures run { (line : List ℕ) (k : ℕ) (fault : PoolFault) → ReadsLine line (Ok (Run k))
-        → IsBegun line (Pool fault) before.now after.now
+    ensures blank { (limit : ℕ) (line : List ℕ) (fault : ServeFault) → ReadsLine line (Ok Blank)
+        → IsBegun limit line fault before.now after.now → fault ≡ Memory }
+    ensures refused { (limit : ℕ) (line : List ℕ) (why : TextFault) (fault : ServeFault)
+        → ReadsLine line (Err why) → IsBegun limit line fault before.now after.now
+        → fault ≡ Memory }
+    ensures command { (limit : ℕ) (line : List ℕ) (c : Command) (fault : PoolFault)
+        → ReadsLine line (Ok (Asks c)) → ¬ IsBegun limit line (Pool fault) before.now after.now }
+    ensures run { (limit : ℕ) (line : List ℕ) (k : ℕ) (fault : PoolFault)
+        → ReadsLine line (Ok (Run k))
+        → IsBegun limit line (Pool fault) before.now after.now
         → turns k 0 (table_of before.now) ≢ [] }
-    ensures round { (line : List ℕ) (k : ℕ) (fault : PoolFault) → ReadsLine line (Ok (Run k))
-        → IsBegun line (Pool fault) before.now after.now → (fault ≡ pool_fault.Memory)
+    ensures round { (limit : ℕ) (line : List ℕ) (k : ℕ) (fault : PoolFault)
+        → ReadsLine line (Ok (Run k))
+        → IsBegun limit line (Pool fault) before.now after.now → (fault ≡ pool_fault.Memory)
         ⊎ IsBeforeRound (table_of before.now) (turns k 0 (table_of before.now))
         (table_of after.now) }
 {
@@ -282,27 +285,32 @@ pub fn a_failing_writer_cuts_a_serving()
 /// it. Any other has answered a front of them: a failing writer cuts their answers short and takes
 /// nothing back, and what any other fault leaves is what `a_fault_ends_a_serving` says.
 pub fn a_serving_ends_so<D: Disk>(before: &Book<D>, after: &Book<D>)
-    ensures all { (most : ℕ) (done : Unit {0}) (ls : List (List ℕ)) (old new : Option (List ℕ))
-        (is : IsServing most (Ok done) ls before.now after.now old new) → is.front ≡ ls }
-    ensures served { (most : ℕ) (done : Unit {0}) (ls : List (List ℕ)) (old new : Option (List ℕ))
-        → IsServing most (Ok done) ls before.now after.now old new
+    ensures all { (limit most : ℕ) (done : Unit {0}) (ls : List (List ℕ))
+        (old new : Option (List ℕ))
+        (is : IsServing limit most (Ok done) ls before.now after.now old new) → is.front ≡ ls }
+    ensures served { (limit most : ℕ) (done : Unit {0}) (ls : List (List ℕ))
+        (old new : Option (List ℕ))
+        → IsServing limit most (Ok done) ls before.now after.now old new
         → AreAnswered ls (table_of before.now) (table_of after.now) old new }
-    ensures kept { (most : ℕ) (done : Unit {0}) (ls : List (List ℕ)) (old new : Option (List ℕ))
-        → IsServing most (Ok done) ls before.now after.now old new
+    ensures kept { (limit most : ℕ) (done : Unit {0}) (ls : List (List ℕ))
+        (old new : Option (List ℕ))
+        → IsServing limit most (Ok done) ls before.now after.now old new
         → IsAllKept before.now → IsAllKept after.now }
-    ensures front { (most : ℕ) (fault : ServeFault) (ls : List (List ℕ)) (old new : Option (List ℕ))
-        (is : IsServing {T = Unit {0}} most (Err fault) ls before.now after.now old new)
+    ensures front { (limit most : ℕ) (fault : ServeFault) (ls : List (List ℕ))
+        (old new : Option (List ℕ))
+        (is : IsServing {T = Unit {0}} limit most (Err fault) ls before.now after.now old new)
         → ls ≡ is.front ++ is.rest }
-    ensures fault { (most : ℕ) (fault : ServeFault) (ls : List (List ℕ)) (old new : Option (List ℕ))
+    ensures fault { (limit most : ℕ) (fault : ServeFault) (ls : List (List ℕ))
+        (old new : Option (List ℕ))
         → fault ≢ Write
-        → (is : IsServing {T = Unit {0}} most (Err fault) ls before.now after.now old new)
+        → (is : IsServing {T = Unit {0}} limit most (Err fault) ls before.now after.now old new)
         → IsEnded fault most (IsAllKept before.now) is.front is.rest (table_of before.now)
         (table_of after.now) (last_kept after.now) old new }
-    ensures cut { (most : ℕ) (ls : List (List ℕ)) (old new : Option (List ℕ))
-        (is : IsServing {T = Unit {0}} most (Err Write) ls before.now after.now old new)
+    ensures cut { (limit most : ℕ) (ls : List (List ℕ)) (old new : Option (List ℕ))
+        (is : IsServing {T = Unit {0}} limit most (Err Write) ls before.now after.now old new)
         → IsCut most is.front (table_of before.now) (table_of after.now) old new }
-    ensures kept_at_cut { (most : ℕ) (ls : List (List ℕ)) (old new : Option (List ℕ))
-        → IsServing {T = Unit {0}} most (Err Write) ls before.now after.now old new
+    ensures kept_at_cut { (limit most : ℕ) (ls : List (List ℕ)) (old new : Option (List ℕ))
+        → IsServing {T = Unit {0}} limit most (Err Write) ls before.now after.now old new
         → IsAllKept before.now → IsAllKept after.now }
 {
     let _ = before;
@@ -325,22 +333,26 @@ pub fn all_is_kept_where_each_entry_is<D: Disk>(book: &Book<D>)
 /// a run all is kept; after a blank and a refused line nothing has changed. Where a line was only
 /// begun, the table is within it, and what is kept is what was kept before it, or within it too.
 pub fn a_line_is_answered_as_it_is_served<D: Disk>(before: &Book<D>, after: &Book<D>)
-    ensures served { (line bytes : List ℕ) → IsAnswered line bytes before.now after.now
+    ensures served { (limit : ℕ) (line bytes : List ℕ)
+        → IsAnswered limit line bytes before.now after.now
         → IsServed (table_of before.now) (line ∷ []) bytes (table_of after.now) }
-    ensures kept { (line bytes : List ℕ) → IsAnswered line bytes before.now after.now
+    ensures kept { (limit : ℕ) (line bytes : List ℕ)
+        → IsAnswered limit line bytes before.now after.now
         → IsAllKept after.now ⊎ IsUnchanged before.now after.now }
-    ensures blank { (line bytes : List ℕ) → ReadsLine line (Ok Blank)
-        → IsAnswered line bytes before.now after.now → IsUnchanged before.now after.now }
-    ensures refused { (line bytes : List ℕ) (fault : TextFault) → ReadsLine line (Err fault)
-        → IsAnswered line bytes before.now after.now → IsUnchanged before.now after.now }
-    ensures command { (line bytes : List ℕ) (c : Command) → ReadsLine line (Ok (Asks c))
-        → IsAnswered line bytes before.now after.now → IsAllKept after.now }
-    ensures run { (line bytes : List ℕ) (k : ℕ) → ReadsLine line (Ok (Run k))
-        → IsAnswered line bytes before.now after.now → IsAllKept after.now }
-    ensures begun { (line : List ℕ) (fault : ServeFault) → IsBegun line fault before.now after.now
+    ensures blank { (limit : ℕ) (line bytes : List ℕ) → ReadsLine line (Ok Blank)
+        → IsAnswered limit line bytes before.now after.now → IsUnchanged before.now after.now }
+    ensures refused { (limit : ℕ) (line bytes : List ℕ) (fault : TextFault)
+        → ReadsLine line (Err fault)
+        → IsAnswered limit line bytes before.now after.now → IsUnchanged before.now after.now }
+    ensures command { (limit : ℕ) (line bytes : List ℕ) (c : Command) → ReadsLine line (Ok (Asks c))
+        → IsAnswered limit line bytes before.now after.now → IsAllKept after.now }
+    ensures run { (limit : ℕ) (line bytes : List ℕ) (k : ℕ) → ReadsLine line (Ok (Run k))
+        → IsAnswered limit line bytes before.now after.now → IsAllKept after.now }
+    ensures begun { (limit : ℕ) (line : List ℕ) (fault : ServeFault)
+        → IsBegun limit line fault before.now after.now
         → IsInLine (table_of before.now) line (table_of after.now) }
-    ensures kept_within { (line : List ℕ) (fault : ServeFault)
-        → IsBegun line fault before.now after.now
+    ensures kept_within { (limit : ℕ) (line : List ℕ) (fault : ServeFault)
+        → IsBegun limit line fault before.now after.now
         → IsKeptInLine (table_of before.now) (last_kept before.now) line (last_kept after.now) }
     ensures within { (t kept u : List JobParts) (line : List ℕ) → IsKeptInLine t kept line u
         ↔ ((u ≡ kept) ⊎ IsInLine t line u) }
@@ -351,19 +363,20 @@ pub fn a_line_is_answered_as_it_is_served<D: Disk>(before: &Book<D>, after: &Boo
 /// A command or a run is answered over no broken book, and a command over none whose slots' numbers
 /// are used up. A line's events stand after the log of the page, where there is room for them.
 pub fn an_answered_line_tells_of_its_book<D: Disk>(before: &Book<D>, after: &Book<D>)
-    ensures whole { (line bytes : List ℕ) (c : Command) → ReadsLine line (Ok (Asks c))
-        → IsAnswered line bytes before.now after.now → is_broken after.now ≡ false }
-    ensures whole_run { (line bytes : List ℕ) (k : ℕ) → ReadsLine line (Ok (Run k))
-        → IsAnswered line bytes before.now after.now → is_broken after.now ≡ false }
-    ensures fresh { (line bytes : List ℕ) (c : Command) → ReadsLine line (Ok (Asks c))
-        → IsAnswered line bytes before.now after.now → number_of before.now ≢ 2 ^ 64 - 1 }
-    ensures page { (line bytes : List ℕ) (a : Reading) → ReadsLine line a
-        → IsAnswered line bytes before.now after.now
-        → HasRoom (events (table_of before.now) a) before.now
+    ensures whole { (limit : ℕ) (line bytes : List ℕ) (c : Command) → ReadsLine line (Ok (Asks c))
+        → IsAnswered limit line bytes before.now after.now → is_broken after.now ≡ false }
+    ensures whole_run { (limit : ℕ) (line bytes : List ℕ) (k : ℕ) → ReadsLine line (Ok (Run k))
+        → IsAnswered limit line bytes before.now after.now → is_broken after.now ≡ false }
+    ensures fresh { (limit : ℕ) (line bytes : List ℕ) (c : Command) → ReadsLine line (Ok (Asks c))
+        → IsAnswered limit line bytes before.now after.now → number_of before.now ≢ 2 ^ 64 - 1 }
+    ensures page { (limit : ℕ) (line bytes : List ℕ) (a : Reading) → ReadsLine line a
+        → IsAnswered limit line bytes before.now after.now
+        → HasRoom limit (events (table_of before.now) a) before.now
         → GoesOn (events (table_of before.now) a) before.now after.now }
-    ensures begun_page { (line : List ℕ) (fault : ServeFault) (a : Reading) → ReadsLine line a
-        → IsBegun line fault before.now after.now
-        → HasRoom (events (table_of before.now) a) before.now
+    ensures begun_page { (limit : ℕ) (line : List ℕ) (fault : ServeFault) (a : Reading)
+        → ReadsLine line a
+        → IsBegun limit line fault before.now after.now
+        → HasRoom limit (events (table_of before.now) a) before.now
         → GoesOnWithin (events (table_of before.now) a) before.now after.now }
 {
     ic_commands::laws::one_line_reading();
@@ -372,7 +385,7 @@ pub fn an_answered_line_tells_of_its_book<D: Disk>(before: &Book<D>, after: &Boo
 /// A page that goes on begins with the table that it began with, and its log is the one that it had
 /// with the entries of these events after it, one for each, in their order, sent by 0. So the old
 /// log is a front of the new one. It goes on within events by the first so many of them. It has room
-/// for events where they and its entries weigh less than 65,536 in units of 1,024 bytes.
+/// for events where they and its entries weigh less than the limit, in units of 1,024 bytes.
 pub fn a_page_goes_on<D: Disk>(before: &Book<D>, after: &Book<D>)
     ensures start { (es : List Event) → GoesOn es before.now after.now
         → start_of after.now ≡ start_of before.now }
@@ -385,8 +398,8 @@ pub fn a_page_goes_on<D: Disk>(before: &Book<D>, after: &Book<D>)
         (drop (length (log_of before.now)) (log_of after.now)) }
     ensures within { (es : List Event) → GoesOnWithin es before.now after.now
         → (n : ℕ) × (n ≤ length es) × GoesOn (take n es) before.now after.now }
-    ensures room { (es : List Event) → HasRoom es before.now
-        ↔ (weight_of (log_of before.now) + weigh es < 65536) }
+    ensures room { (limit : ℕ) (es : List Event) → HasRoom limit es before.now
+        ↔ (weight_of (log_of before.now) + weigh es < limit) }
 {}
 
 /// `Device` says that one more failure of the disk was counted, or that the count is at its end, and

@@ -72,9 +72,9 @@ pub fn the_served_headline<D: Disk>(old: &Book<D>, new: &Book<D>, found: &D)
 
     // Of the lines after those that were answered at most one group has come to the table, of at most
     // so many lines.
-    ensures group { (most : ℕ) (fault : ServeFault) (ls : List (List ℕ))
+    ensures group { (limit most : ℕ) (fault : ServeFault) (ls : List (List ℕ))
         (before after : Option (List ℕ))
-        (serving : IsServing {T = Unit {0}} most (Err fault) ls old.now new.now before after)
+        (serving : IsServing {T = Unit {0}} limit most (Err fault) ls old.now new.now before after)
         → 1 ≤ most → fault ≢ Write → (answers : List ℕ) × (t : List JobParts)
         × IsServed (table_of old.now) serving.front answers t
         × IsInFew most t serving.rest (table_of new.now) }
@@ -157,9 +157,9 @@ pub fn servings_are_a_run<D: Disk>(first: &D, last: &D, book: &Book<D>)
 /// A call of `serve_lines` is a serving by its clauses alone. As many of the groups that it answered as
 /// one likes may be its first lines.
 pub fn a_call_is_a_serving<D: Disk>(old: &Book<D>, new: &Book<D>)
-    ensures { (most : ℕ) (result : Result (Unit {0}) ServeFault)
+    ensures { (limit most : ℕ) (result : Result (Unit {0}) ServeFault)
         (ls : List (List ℕ)) (before after : Option (List ℕ))
-        (serves : IsServing most result ls old.now new.now before after)
+        (serves : IsServing limit most result ls old.now new.now before after)
         (front more : List (List (List ℕ))) → serves.turns.groups ≡ front ++ more
         → (serving : Serving D.Disk) × (serving.old ≡ old.now) × (serving.new ≡ new.now)
         × (serving.ls ≡ ls) × (serving.result ≡ result) × (serving.front ≡ front) }
@@ -173,14 +173,16 @@ pub fn a_call_is_a_serving<D: Disk>(old: &Book<D>, new: &Book<D>)
 /// that a front of them reaches, or the one that was kept last where not all was kept before. It is
 /// the one after a legal history of the moves that were cut short, which has every answered command.
 pub fn lines_are_moves<D: Disk>(old: &Book<D>, new: &Book<D>, found: &D)
-    ensures answered { (moves : List Move) (most : ℕ) (result : Result (Unit {0}) ServeFault)
+    ensures answered { (moves : List Move) (limit most : ℕ) (result : Result (Unit {0}) ServeFault)
         (ls : List (List ℕ)) (before after : Option (List ℕ))
-        (serving : IsServing most result ls old.now new.now before after) → Reaches moves (up old.now)
+        (serving : IsServing limit most result ls old.now new.now before after)
+        → Reaches moves (up old.now)
         → OnOk result (AreAnswered ls (table_of old.now) (table_of new.now) before after)
         × IsTableAfter (serving.crash.done.moves ++ moves) (table_of new.now) }
-    ensures stopped { (moves : List Move) (most : ℕ) (result : Result (Unit {0}) ServeFault)
+    ensures stopped { (moves : List Move) (limit most : ℕ) (result : Result (Unit {0}) ServeFault)
         (ls : List (List ℕ)) (before after : Option (List ℕ))
-        (serving : IsServing most result ls old.now new.now before after) → Reaches moves (up old.now)
+        (serving : IsServing limit most result ls old.now new.now before after)
+        → Reaches moves (up old.now)
         → IsFound D.Disk (disk_of old.now) (disk_of new.now) found.now
         → (cut : List Move) × IsCutShort serving.crash.done.moves cut
         × Reaches {ghosts = D.Disk} (cut ++ moves) (down found.now)
@@ -203,18 +205,18 @@ pub fn lines_are_moves<D: Disk>(old: &Book<D>, new: &Book<D>, found: &D)
 /// keep. A stop from that book's clock on is one in the midst of a later call: the moves of these lines
 /// are all there.
 pub fn answered_lines_stay<D: Disk>(old: &Book<D>, new: &Book<D>, found: &D)
-    ensures { (moves : List Move) (most : ℕ) (result : Result (Unit {0}) ServeFault)
+    ensures { (moves : List Move) (limit most : ℕ) (result : Result (Unit {0}) ServeFault)
         (ls : List (List ℕ)) (before after : Option (List ℕ))
-        (serving : IsServing most result ls old.now new.now before after)
+        (serving : IsServing limit most result ls old.now new.now before after)
         (front more : List (List (List ℕ))) → serving.turns.groups ≡ front ++ more
         → Reaches moves (up old.now)
-        → (mid : BookOver D.Disk) × (turns : AreAnsweredInTurn front old.now mid)
-        × (others : AreAnsweredInTurn more mid serving.turns.between)
+        → (mid : BookOver D.Disk) × (turns : AreAnsweredInTurn limit front old.now mid)
+        × (others : AreAnsweredInTurn limit more mid serving.turns.between)
         × (later : IsByCalls mid new.now)
-        × Reaches (moves_in_turn front old.now mid turns ++ moves) (up mid)
+        × Reaches (moves_in_turn limit front old.now mid turns ++ moves) (up mid)
         × (IsFound D.Disk (disk_of mid) (disk_of new.now) found.now
         → (cut : List Move) × IsCutShort later.moves cut × Reaches {ghosts = D.Disk}
-        (cut ++ (moves_in_turn front old.now mid turns ++ moves)) (down found.now)) }
+        (cut ++ (moves_in_turn limit front old.now mid turns ++ moves)) (down found.now)) }
 {
     let _ = old;
     let _ = new;
@@ -237,10 +239,10 @@ pub fn answered_lines_are_moves<D: Disk>(old: &Book<D>, new: &Book<D>)
     ensures run { (count : ℕ) (bytes : List ℕ)
         (done : IsDoneFor (Ok (Run count)) bytes old.now new.now) → (earlier : List Move)
         × ((calls_for (Ok (Run count)) bytes old.now new.now done).moves ≡ keeps ∷ earlier) }
-    ensures group { (ls : List (List ℕ)) (bytes : List ℕ)
-        (is : IsGroupAnswered ls bytes old.now new.now) → (earlier : List Move)
-        × (moves_at_once ls bytes old.now new.now (by_group is) ≡ keeps ∷ earlier)
-        × StandAmong (replies_at_once ls bytes old.now new.now (by_group is))
+    ensures group { (limit : ℕ) (ls : List (List ℕ)) (bytes : List ℕ)
+        (is : IsGroupAnswered limit ls bytes old.now new.now) → (earlier : List Move)
+        × (moves_at_once limit ls bytes old.now new.now (by_group is) ≡ keeps ∷ earlier)
+        × StandAmong (replies_at_once limit ls bytes old.now new.now (by_group is))
         (answered earlier ++ taken earlier) }
 {
     let _ = old;

@@ -29,25 +29,26 @@ use ic_disk::Disk;
 /// itself, its own, with the replies whose lines it was answered, between what those before it and those
 /// after it tell. No other line tells any.
 pub fn each_command_line_is_told<D: Disk>(first: &Book<D>, last: &Book<D>)
-    ensures command { (front back : List (List (List ℕ))) (group : List (List ℕ))
+    ensures command { (limit : ℕ) (front back : List (List (List ℕ))) (group : List (List ℕ))
         (commands : List Command)
-        (turns : AreAnsweredInTurn (front ++ group ∷ back) first.now last.now)
+        (turns : AreAnsweredInTurn limit (front ++ group ∷ back) first.now last.now)
         → AskFor group commands
-        → (here : IsAnsweredBetween front group back first.now last.now) × (replies : List Reply)
+        → (here : IsAnsweredBetween limit front group back first.now last.now)
+        × (replies : List Reply)
         × (here.bytes ≡ flat_map (λ reply. ended (reply_text reply)) replies)
-        × (replies_in_turn (front ++ group ∷ back) first.now last.now turns
-        ≡ replies_in_turn front first.now here.before here.in_front
+        × (replies_in_turn limit (front ++ group ∷ back) first.now last.now turns
+        ≡ replies_in_turn limit front first.now here.before here.in_front
         ++ (entries_of commands replies
-        ++ replies_in_turn back here.after last.now here.later)) }
-    ensures other { (front back : List (List (List ℕ))) (line : List ℕ)
-        (turns : AreAnsweredInTurn (front ++ (line ∷ []) ∷ back) first.now last.now)
+        ++ replies_in_turn limit back here.after last.now here.later)) }
+    ensures other { (limit : ℕ) (front back : List (List (List ℕ))) (line : List ℕ)
+        (turns : AreAnsweredInTurn limit (front ++ (line ∷ []) ∷ back) first.now last.now)
         → ((command : Command) → ¬ ReadsLine line (Ok (Asks command)))
-        → (here : IsAnsweredBetween front (line ∷ []) back first.now last.now)
-        × (replies_in_turn (front ++ (line ∷ []) ∷ back) first.now last.now turns
-        ≡ replies_in_turn front first.now here.before here.in_front
-        ++ replies_in_turn back here.after last.now here.later) }
-    ensures none { (turns : AreAnsweredInTurn [] first.now last.now)
-        → replies_in_turn [] first.now last.now turns ≡ [] }
+        → (here : IsAnsweredBetween limit front (line ∷ []) back first.now last.now)
+        × (replies_in_turn limit (front ++ (line ∷ []) ∷ back) first.now last.now turns
+        ≡ replies_in_turn limit front first.now here.before here.in_front
+        ++ replies_in_turn limit back here.after last.now here.later) }
+    ensures none { (limit : ℕ) (turns : AreAnsweredInTurn limit [] first.now last.now)
+        → replies_in_turn limit [] first.now last.now turns ≡ [] }
 {
     let _ = first;
     let _ = last;
@@ -60,10 +61,12 @@ pub fn each_part_is_told<D: Disk>(disk: &D)
     ensures joined { (later earlier : List (Part D.Disk))
         → answered_by (later ++ earlier) ≡ answered_by earlier ++ answered_by later }
     ensures ended { (serving : Serving D.Disk) → answered_by (ended_part serving ∷ [])
-        ≡ replies_in_turn serving.front serving.old serving.answering serving.first_lines }
+        ≡ replies_in_turn serving.limit serving.front serving.old serving.answering
+        serving.first_lines }
     ensures stopped { (serving : Serving D.Disk) (found : D)
         → answered_by (stopped_part serving found ∷ [])
-        ≡ replies_in_turn serving.front serving.old serving.answering serving.first_lines }
+        ≡ replies_in_turn serving.limit serving.front serving.old serving.answering
+        serving.first_lines }
     ensures other { (moves : List Move) (server : Server D.Disk)
         → answered_by (other_part moves server ∷ []) ≡ answered moves }
 {

@@ -13,8 +13,9 @@ use crate::{
 };
 use ic_args::table::{
     CHECKED, DISK, DRAWN, EVERY, EXPLAIN, FILE, GROUP, HELPERS, KEEP, LIMITS, LINES, MAX_ROUNDS,
-    MAX_STEPS, NAMES, NODES, OVERWRITE, PLAIN, REPORT, RESUME, RICH, RULES_TOO, RUNNERS, SCRIPT,
-    SCRIPTS, STRICT, SUMS, TABLE, TAKEN, TOPIC, TRACED, TURNS, WAIT, WORKERS, Word, table,
+    MAX_STEPS, NAMES, NODES, OVERWRITE, PAGE_BYTES, PLAIN, REPORT, RESUME, RICH, RULES_TOO,
+    RUNNERS, SCRIPT, SCRIPTS, STRICT, SUMS, TABLE, TAKEN, TOPIC, TRACED, TURNS, WAIT, WORKERS, Word,
+    table,
 };
 use ic_args::{Place, ReportFormat, TextLimits, TraceFormat, Values, WordsFault, help_of};
 use ic_causes::{NotedInput, NotedOutput, Notes};
@@ -245,11 +246,11 @@ fn serve<T: Threads + Wait + Copy + Send + 'static>(
 ) -> Result<(), Failure> {
     let at = disk_at(doing.values);
     let explains = doing.values.flag(&EXPLAIN);
-    let making = making_of(
-        doing.threads,
-        doing.values,
-        doing.values.number(&GROUP) as u32,
-    );
+    let making = Making {
+        group: doing.values.number(&GROUP) as u32,
+        page_bytes: doing.values.number(&PAGE_BYTES),
+        ..making_of(doing.threads, doing.values)
+    };
     serve_session(doing.rt, doing.threads, at, making, explains, doing.notes)
 }
 
@@ -280,7 +281,7 @@ fn batch<T: Threads + Wait + Copy + Send + 'static>(
     told: &mut Vec<u8>,
 ) -> Result<(), Failure> {
     let most = most_of(doing.values);
-    let making = making_of(doing.threads, doing.values, 1);
+    let making = making_of(doing.threads, doing.values);
     let files = batching::Files {
         disk: disk_at(doing.values),
         lines: doing.values.word(&LINES).unwrap_or(""),
@@ -309,9 +310,9 @@ fn most_of(values: &Values) -> u64 {
     values.number_met(&TAKEN).unwrap_or(MAX_ROUNDS)
 }
 
-/// How many threads make rounds of several jobs, as many as there are processors where no number is said, after how many
-/// rounds they are kept, and how many commands are kept at once.
-fn making_of<T: Threads>(threads: &T, values: &Values, group: u32) -> Making {
+/// How many threads make rounds of several jobs, as many as there are processors where no number is said, and after how many
+/// rounds they are kept. Each command is kept by itself, and the history takes as much as it may.
+fn making_of<T: Threads>(threads: &T, values: &Values) -> Making {
     let said = match values.number_met(&WORKERS) {
         Some(number) => Some(number as u32),
         None => None,
@@ -319,7 +320,8 @@ fn making_of<T: Threads>(threads: &T, values: &Values, group: u32) -> Making {
     Making {
         workers: threads_for(threads, said, MAX_STEPS),
         every: values.number(&EVERY) as u32,
-        group,
+        group: 1,
+        page_bytes: PAGE_BYTES.most,
     }
 }
 

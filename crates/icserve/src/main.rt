@@ -2,6 +2,7 @@
 #![tactic(auto)]
 
 ghost use Rattle.std.specs.Prelude.{◌≤◌};
+ghost use Rattle.ic_serving.specs.Grown.{IsLimit};
 
 mod answers;
 mod batching;
@@ -44,7 +45,7 @@ use ic_keeping::KeepingFault;
 use ic_pool::Gate;
 use ic_progress::{Progress, WipedFirst};
 use ic_scripts::{ScriptsFault, attend_scripts};
-use ic_serving::{ServeFault, serve_watched};
+use ic_serving::{PAGE_WEIGHT, ServeFault, serve_watched};
 use ic_slots::is_unused;
 use ic_streams::StreamFault;
 use std::alloc::AllocError;
@@ -274,13 +275,14 @@ pub(crate) fn book_on<'a>(
     }
 }
 
-/// By how many threads rounds of several jobs are made, after how many rounds they are kept, and how many commands are
-/// kept at once.
+/// By how many threads rounds of several jobs are made, after how many rounds they are kept, how many commands are kept at
+/// once, and how many bytes the history may take.
 #[derive(Clone, Copy)]
 pub(crate) struct Making {
     pub(crate) workers: u32,
     pub(crate) every: u32,
     pub(crate) group: u32,
+    pub(crate) page_bytes: u64,
 }
 
 impl Making {
@@ -303,6 +305,13 @@ impl Making {
         ensures { 1 ≤ result }
     {
         self.group.max(1) as usize
+    }
+
+    /// What the entries of a page of the history may weigh before a new one begins.
+    pub(crate) fn page_weight(self) -> u64
+        ensures { IsLimit result }
+    {
+        (self.page_bytes / 1_024).max(1).min(PAGE_WEIGHT)
     }
 }
 
@@ -382,6 +391,7 @@ fn serve_over<T: Threads + Wait + Copy + Send + 'static, D: Disk, R: Read, G: Ga
         making.workers(),
         making.every(),
         making.group(),
+        making.page_weight(),
         gate,
     );
     if output.flush().is_err() && served.is_ok() {

@@ -28,10 +28,10 @@ asked commands = map by_command commands
 
 -- These events have come to the table and to its page, and what was kept before or a front of them is
 -- kept. A crash since leaves the table that was kept before, or one within them.
-pub record HaveCome {D : Type 0} {ghosts : Ghosts D} (es : List Event) (old new : Book D ghosts) : Type 0 where
+pub record HaveCome {D : Type 0} {ghosts : Ghosts D} (limit : ℕ) (es : List Event) (old new : Book D ghosts) : Type 0 where
   pub table : table_of new ≡ after_events (table_of old) es
   pub kept : IsKeptWithin (table_of old) (last_kept old) es (last_kept new)
-  pub page : HasRoom es old → GoesOn es old new
+  pub page : HasRoom limit es old → GoesOn es old new
   pub crash : Leaves old new (IsKeptWithin (table_of old) (last_kept old) es)
 
 -- these lines are taken: they were the first of those to come
@@ -47,7 +47,7 @@ pub record ArePassed (ls : List (List ℕ)) (before after : BufferParts) : Type 
 
 -- At most so many commands of lines that were ready are taken, without a call to the disk. Where it went
 -- well their answers are added, and they are counted.
-pub record TakesReady {D : Type 0} {ghosts : Ghosts D} (most : ℕ) (well : Bool)
+pub record TakesReady {D : Type 0} {ghosts : Ghosts D} (limit most : ℕ) (well : Bool)
     (before after : BufferParts) (answers answers_then : List ℕ) (count count_then : ℕ)
     (old new : Book D ghosts) : Type 0 where
   pub commands : List Command
@@ -55,7 +55,7 @@ pub record TakesReady {D : Type 0} {ghosts : Ghosts D} (most : ℕ) (well : Bool
   pub asks : AskFor ls commands
   pub took : ArePassed ls before after
   pub few : length ls ≤ most
-  pub come : HaveCome (asked commands) old new
+  pub come : HaveCome limit (asked commands) old new
   pub keeper : keeper_of new ≡ keeper_of old
   pub unkept : unkept_of new ≤ unkept_of old + length ls
   pub counted : well ≡ true → count_then ≡ count + length ls
@@ -63,13 +63,13 @@ pub record TakesReady {D : Type 0} {ghosts : Ghosts D} (most : ℕ) (well : Bool
 
 -- What lines come to that are answered at once, the first of them taken and the others ready: they are so
 -- many, at most as many as this, and all is kept then or nothing has changed.
-pub record IsNextAnswered {D : Type 0} {ghosts : Ghosts D} (most : ℕ) (before after : BufferParts)
+pub record IsNextAnswered {D : Type 0} {ghosts : Ghosts D} (limit most : ℕ) (before after : BufferParts)
     (bytes : List ℕ) (count : ℕ) (old new : Book D ghosts) : Type 0 where
   pub more : List (List ℕ)
   pub took : ArePassed more before after
   pub counted : count ≡ length more + 1
   pub few : count ≤ most
-  pub answered : AreAnsweredAtOnce (before.line ∷ more) bytes old new
+  pub answered : AreAnsweredAtOnce limit (before.line ∷ more) bytes old new
   pub served : IsServed (table_of old) (before.line ∷ more) bytes (table_of new)
   pub kept : IsAllKept new ⊎ IsUnchanged old new
   pub crash : Leaves old new (λ u. (u ≡ last_kept old) ⊎ IsInFew most (table_of old) (before.line ∷ more) u)
@@ -87,7 +87,7 @@ pub record IsNextBegun {D : Type 0} {ghosts : Ghosts D} (most : ℕ) (before aft
   pub crash : Leaves old new (λ u. (u ≡ last_kept old) ⊎ IsInFew most (table_of old) (before.line ∷ more) u)
 
 -- Commands were taken as a group, the first of them read before, and kept at once.
-pub record IsGroupDone {D : Type 0} {ghosts : Ghosts D} (most : ℕ) (first : Command) (before after : BufferParts)
+pub record IsGroupDone {D : Type 0} {ghosts : Ghosts D} (limit most : ℕ) (first : Command) (before after : BufferParts)
     (bytes : List ℕ) (count : ℕ) (old new : Book D ghosts) : Type 0 where
   pub commands : List Command
   pub ls : List (List ℕ)
@@ -100,16 +100,16 @@ pub record IsGroupDone {D : Type 0} {ghosts : Ghosts D} (most : ℕ) (first : Co
   pub kept : EndsWith keeps between new
   pub table : table_of new ≡ table_of between
   pub fresh : number_of old ≢ 2 ^ 64 - 1
-  pub come : HaveCome (asked (first ∷ commands)) old new
-  pub calls : HasSpare old → ghosts.clock (disk_of new) ≤ ghosts.clock (disk_of old) + 6
+  pub come : HaveCome limit (asked (first ∷ commands)) old new
+  pub calls : HasSpare limit old → ghosts.clock (disk_of new) ≤ ghosts.clock (disk_of old) + 6
 
 -- and where a fault came
-pub record IsGroupBegun {D : Type 0} {ghosts : Ghosts D} (most : ℕ) (first : Command) (before after : BufferParts)
+pub record IsGroupBegun {D : Type 0} {ghosts : Ghosts D} (limit most : ℕ) (first : Command) (before after : BufferParts)
     (old new : Book D ghosts) : Type 0 where
   pub commands : List Command
   pub ls : List (List ℕ)
   pub asks : AskFor ls commands
   pub took : ArePassed ls before after
   pub few : length ls < most
-  pub begun : Begins (asked (first ∷ commands)) old new
+  pub begun : Begins limit (asked (first ∷ commands)) old new
   pub crash : Leaves old new (IsKeptWithin (table_of old) (last_kept old) (asked (first ∷ commands)))

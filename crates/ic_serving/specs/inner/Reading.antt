@@ -8,13 +8,13 @@ use Rattle.ic_serving.specs.Answered.{IsKeptFor, IsWholeFor, IsFreshFor, IsDoneF
 use Rattle.ic_serving.specs.Grown.{GoesOn, HasRoom}
 
 -- each line that is read so is answered by these bytes, and what it leaves is kept
-pub record IsAnsweredAs {D : Type 0} {ghosts : Ghosts D} (reading : Reading) (bytes : List ℕ)
+pub record IsAnsweredAs {D : Type 0} {ghosts : Ghosts D} (limit : ℕ) (reading : Reading) (bytes : List ℕ)
     (old new : Book D ghosts) : Type 0 where
   pub answer : bytes ≡ answer (table_of old) reading
   pub table : table_of new ≡ after_line (table_of old) reading
   pub kept : IsKeptFor reading old new
   pub whole : IsWholeFor reading new
   pub fresh : IsFreshFor reading old
-  pub page : HasRoom (events (table_of old) reading) old
+  pub page : HasRoom limit (events (table_of old) reading) old
       → GoesOn (events (table_of old) reading) old new
   pub done : IsDoneFor reading bytes old new

@@ -13,7 +13,7 @@ use Rattle.ic_serving.proofs.RefusalLemmas.{err_comes, of_memory}
 use Rattle.ic_serving.proofs.answering.answer_line.Goals as goal
 
 pub returns-in_err-reading-clause-begun : goal.returns-in_err-reading-clause-begun
-returns-in_err-reading-clause-begun g c = no_line_begun c.one_line_reading.ensures.total c.args.book.now c.args.line.now c.from_residual.result c.in_err-reading.field-0.0
+returns-in_err-reading-clause-begun g c = no_line_begun c.one_line_reading.ensures.total c.args.limit c.args.book.now c.args.line.now c.from_residual.result c.in_err-reading.field-0.0
     c.from_residual.ensures.1 c.in_err-reading.ensures.memory
 
 pub returns-in_err-reading-clause-crash : goal.returns-in_err-reading-clause-crash
@@ -22,11 +22,11 @@ returns-in_err-reading-clause-crash g c = leaves_nothing c.args.book.now (IsKept
     (inr (in_line c.one_line_reading.ensures.total (table_of c.args.book.now) c.args.line.now))
 
 pub returns-clause-answered : goal.returns-clause-answered
-returns-clause-answered g c = if_answered c.args.line.now c.in_ok-reading.reading c.args.book.now c.answer_read-answered.new.book c.answer_read-answered.result (λ v. v.items)
+returns-clause-answered g c = if_answered c.args.limit c.args.line.now c.in_ok-reading.reading c.args.book.now c.answer_read-answered.new.book c.answer_read-answered.result (λ v. v.items)
     c.in_ok-reading.ensures.read c.answer_read-answered.ensures.answered
 
 pub returns-clause-begun : goal.returns-clause-begun
-returns-clause-begun g c = if_begun c.args.line.now c.in_ok-reading.reading c.args.book.now c.answer_read-answered.new.book c.answer_read-answered.result
+returns-clause-begun g c = if_begun c.args.limit c.args.line.now c.in_ok-reading.reading c.args.book.now c.answer_read-answered.new.book c.answer_read-answered.result
     c.in_ok-reading.ensures.read c.answer_read-answered.ensures.begun c.answer_read-answered.ensures.comes
 
 pub returns-clause-crash : goal.returns-clause-crash

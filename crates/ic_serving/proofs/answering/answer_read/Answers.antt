@@ -28,19 +28,19 @@ use Rattle.ic_serving.specs.inner.Reading.{IsAnsweredAs}
 use Rattle.ic_serving.proofs.answering.answer_read.Goals as goal
 
 -- a command is answered, by what its answer says
-command_answered : {D V : Type 0} {ghosts : Ghosts D} (c : Command) (old new : Book D ghosts) (r : Result V ServeFault) (items : V → List ℕ)
+command_answered : {D V : Type 0} {ghosts : Ghosts D} (limit : ℕ) (c : Command) (old new : Book D ghosts) (r : Result V ServeFault) (items : V → List ℕ)
     → IfOk r (λ v. items v ≡ answer (table_of old) (Ok (Asks c))) → OnOk r (table_of new ≡ after_line (table_of old) (Ok (Asks c))) → OnOk r (IsAllKept new)
     → OnOk r (is_broken new ≡ false) → OnOk r (number_of old ≢ 2 ^ 64 - 1)
-    → OnOk r (HasRoom (by_command c ∷ []) old → GoesOn (by_command c ∷ []) old new) → IfOk r (λ v. IsReplied c (items v) old new)
-    → IfOk r (λ v. IsAnsweredAs (Ok (Asks c)) (items v) old new)
-command_answered c old new (Ok v) items said table kept whole fresh page done =
+    → OnOk r (HasRoom limit (by_command c ∷ []) old → GoesOn (by_command c ∷ []) old new) → IfOk r (λ v. IsReplied c (items v) old new)
+    → IfOk r (λ v. IsAnsweredAs limit (Ok (Asks c)) (items v) old new)
+command_answered limit c old new (Ok v) items said table kept whole fresh page done =
     record { answer = said; table = table; kept = kept; whole = whole; fresh = fresh; page = page; done = done }
-command_answered c old new (Err e) items said table kept whole fresh page done = tt
+command_answered limit c old new (Err e) items said table kept whole fresh page done = tt
 
 -- a refused line is answered by its refusal, and nothing changes
-refused_answered : {D V : Type 0} {ghosts : Ghosts D} (fault : TextFault) (book : Book D ghosts) (r : Result V ServeFault) (items : V → List ℕ)
-    → IfOk r (λ v. items v ≡ answer (table_of book) (Err fault)) → IsByCalls book book → IfOk r (λ v. IsAnsweredAs (Err fault) (items v) book book)
-refused_answered fault book (Ok v) items said done = record {
+refused_answered : {D V : Type 0} {ghosts : Ghosts D} (limit : ℕ) (fault : TextFault) (book : Book D ghosts) (r : Result V ServeFault) (items : V → List ℕ)
+    → IfOk r (λ v. items v ≡ answer (table_of book) (Err fault)) → IsByCalls book book → IfOk r (λ v. IsAnsweredAs limit (Err fault) (items v) book book)
+refused_answered limit fault book (Ok v) items said done = record {
   answer = said;
   table = refl;
   kept = record { same_start = refl; same_log = refl; same_table = refl; same_kept = refl; same_keeper = refl };
@@ -49,21 +49,21 @@ refused_answered fault book (Ok v) items said done = record {
   page = λ room. goes_none book;
   done = done;
 }
-refused_answered fault book (Err e) items said done = tt
+refused_answered limit fault book (Err e) items said done = tt
 
 -- a run is answered, and its last call keeps all
-run_answered : {D V : Type 0} {ghosts : Ghosts D} (k : ℕ) (old new : Book D ghosts) (r : Result V ServeFault) (items : V → List ℕ)
+run_answered : {D V : Type 0} {ghosts : Ghosts D} (limit : ℕ) (k : ℕ) (old new : Book D ghosts) (r : Result V ServeFault) (items : V → List ℕ)
     → IfOk r (λ v. items v ≡ answer (table_of old) (Ok (Run k))) → OnOk r (table_of new ≡ after_line (table_of old) (Ok (Run k))) → OnOk r (IsAllKept new)
-    → OnOk r (is_broken new ≡ false) → OnOk r (HasRoom (turns k 0 (table_of old)) old → GoesOn (turns k 0 (table_of old)) old new) → OnOk r (EndsWith keeps old new)
-    → IfOk r (λ v. IsAnsweredAs (Ok (Run k)) (items v) old new)
-run_answered k old new (Ok v) items said table kept whole page done =
+    → OnOk r (is_broken new ≡ false) → OnOk r (HasRoom limit (turns k 0 (table_of old)) old → GoesOn (turns k 0 (table_of old)) old new) → OnOk r (EndsWith keeps old new)
+    → IfOk r (λ v. IsAnsweredAs limit (Ok (Run k)) (items v) old new)
+run_answered limit k old new (Ok v) items said table kept whole page done =
     record { answer = said; table = table; kept = kept; whole = whole; fresh = tt; page = page; done = done }
-run_answered k old new (Err e) items said table kept whole page done = tt
+run_answered limit k old new (Err e) items said table kept whole page done = tt
 
 pub returns-in-Ok-Command-clause-answered : goal.returns-in-Ok-Command-clause-answered
 returns-in-Ok-Command-clause-answered g c =
     let is : c.args.reading ≡ Ok (Asks c.in-Ok-Command.command) = cc in
-    rw is (command_answered c.in-Ok-Command.command c.args.book.now c.answer_command.new.book c.answer_command.result (λ v. v.items)
+    rw is (command_answered c.args.limit c.in-Ok-Command.command c.args.book.now c.answer_command.new.book c.answer_command.result (λ v. v.items)
     c.answer_command.ensures.answer c.answer_command.ensures.table c.answer_command.ensures.kept
     c.answer_command.ensures.whole c.answer_command.ensures.fresh c.answer_command.ensures.page c.answer_command.ensures.replied)
 
@@ -80,7 +80,7 @@ returns-in-Ok-Command-clause-crash g c =
 pub returns-in-Ok-Run-clause-answered : goal.returns-in-Ok-Run-clause-answered
 returns-in-Ok-Run-clause-answered g c =
     let is : c.args.reading ≡ Ok (Run c.in-Ok-Run.count) = cc in
-    rw is (run_answered c.in-Ok-Run.count c.args.book.now c.answer_run.new.book c.answer_run.result (λ v. v.items)
+    rw is (run_answered c.args.limit c.in-Ok-Run.count c.args.book.now c.answer_run.new.book c.answer_run.result (λ v. v.items)
     c.answer_run.ensures.answer c.answer_run.ensures.table c.answer_run.ensures.kept
     c.answer_run.ensures.whole c.answer_run.ensures.page c.answer_run.ensures.made)
 
@@ -116,7 +116,7 @@ returns-in-Ok-Blank-clause-crash g c = leaves_nothing c.args.book.now (IsKeptWit
 pub returns-in-Err-clause-answered : goal.returns-in-Err-clause-answered
 returns-in-Err-clause-answered g c =
     let is : c.args.reading ≡ Err c.in-Err.fault = cc in
-    rw is (refused_answered c.in-Err.fault c.args.book.now c.answer_refused.result (λ v. v.items) c.answer_refused.ensures.answer (by_nothing c.args.book.now c.facts.ensures.step))
+    rw is (refused_answered c.args.limit c.in-Err.fault c.args.book.now c.answer_refused.result (λ v. v.items) c.answer_refused.ensures.answer (by_nothing c.args.book.now c.facts.ensures.step))
 
 pub returns-in-Err-clause-begun : goal.returns-in-Err-clause-begun
 returns-in-Err-clause-begun g c = on_err c.answer_refused.result _ (nothing_begun c.args.book.now (events (table_of c.args.book.now) c.args.reading))

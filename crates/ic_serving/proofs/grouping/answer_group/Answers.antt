@@ -19,13 +19,13 @@ returns-in_err-answers-clause-begun g c = on_err c.from_residual.result _ (recor
 
 pub returns-in_err-take_ready-clause-begun : goal.returns-in_err-take_ready-clause-begun
 returns-in_err-take_ready-clause-begun g c =
-    let first : HaveCome (by_command c.args.first ∷ []) c.args.book.now c.take_command.new.book = record {
+    let first : HaveCome c.args.limit (by_command c.args.first ∷ []) c.args.book.now c.take_command.new.book = record {
       table = c.in_ok-answers.ensures.taken.table;
       kept = c.take_command.ensures.begun.kept;
       page = c.in_ok-answers.ensures.page;
       crash = c.take_command.ensures.crash;
     } in
-    let r = c.take_ready.ensures.taken in
+    let r = c.take_ready.ensures.taken c.args.limit in
     let all = come_then (by_command c.args.first ∷ []) (asked r.commands) c.args.book.now c.take_command.new.book c.take_ready.new.book first r.come in
     let few = r.few in
     let some = c.requires.some in
@@ -41,13 +41,13 @@ returns-in_err-take_ready-clause-begun g c =
 
 pub returns-in_err-keep_all-clause-begun : goal.returns-in_err-keep_all-clause-begun
 returns-in_err-keep_all-clause-begun g c =
-    let first : HaveCome (by_command c.args.first ∷ []) c.args.book.now c.take_command.new.book = record {
+    let first : HaveCome c.args.limit (by_command c.args.first ∷ []) c.args.book.now c.take_command.new.book = record {
       table = c.in_ok-answers.ensures.taken.table;
       kept = c.take_command.ensures.begun.kept;
       page = c.in_ok-answers.ensures.page;
       crash = c.take_command.ensures.crash;
     } in
-    let r = c.take_ready.ensures.taken in
+    let r = c.take_ready.ensures.taken c.args.limit in
     let all = come_then (by_command c.args.first ∷ []) (asked r.commands) c.args.book.now c.take_command.new.book c.take_ready.new.book first r.come in
     let kept = come_kept (asked (c.args.first ∷ r.commands)) c.args.book.now c.take_ready.new.book c.keep_all.new.book all c.keep_all.ensures.table
     (inl c.in_err-keep_all.ensures.unkept) c.keep_all.ensures.page c.keep_all.ensures.crash in
@@ -65,13 +65,13 @@ returns-in_err-keep_all-clause-begun g c =
 
 pub returns-clause-done : goal.returns-clause-done
 returns-clause-done g c =
-    let first : HaveCome (by_command c.args.first ∷ []) c.args.book.now c.take_command.new.book = record {
+    let first : HaveCome c.args.limit (by_command c.args.first ∷ []) c.args.book.now c.take_command.new.book = record {
       table = c.in_ok-answers.ensures.taken.table;
       kept = c.take_command.ensures.begun.kept;
       page = c.in_ok-answers.ensures.page;
       crash = c.take_command.ensures.crash;
     } in
-    let r = c.in_ok-take_ready.ensures.taken in
+    let r = c.in_ok-take_ready.ensures.taken c.args.limit in
     let all = come_then (by_command c.args.first ∷ []) (asked r.commands) c.args.book.now c.take_command.new.book c.take_ready.new.book first r.come in
     let few = r.few in
     let some = c.requires.some in
@@ -97,3 +97,22 @@ returns-clause-done g c =
           let keep = c.keep_all.ensures.calls in
           omega (arith, one, two, keep);
     }
+
+pub returns-in_err-take_ready-clause-few_unkept : goal.returns-in_err-take_ready-clause-few_unkept
+returns-in_err-take_ready-clause-few_unkept g c =
+    let ready = c.take_ready.ensures.taken c.args.limit in
+    let first = c.take_command.ensures.few_unkept in
+    let few = ready.few in
+    let more = ready.unkept in
+    let some = c.requires.some in
+    omega (arith, first, few, more, some)
+
+pub returns-in_err-keep_all-clause-few_unkept : goal.returns-in_err-keep_all-clause-few_unkept
+returns-in_err-keep_all-clause-few_unkept g c =
+    let ready = c.take_ready.ensures.taken c.args.limit in
+    let first = c.take_command.ensures.few_unkept in
+    let few = ready.few in
+    let more = ready.unkept in
+    let fewer = c.keep_all.ensures.fewer in
+    let some = c.requires.some in
+    omega (arith, first, few, more, fewer, some)

@@ -23,8 +23,8 @@ returns-clause-crash g c = leaves_call c.args.book.now c.new_page.new.self (last
     (IsKeptOrNow c.args.book.now) c.new_page.ensures.crash.keeps c.new_page.ensures.crash.made c.new_page.ensures.crash.any_moment
     (by_keep c.new_page.result c.args.book.now c.new_page.new.self c.new_page.ensures.step) (inl refl) (inr c.facts.ensures.history.replayed)
 
-pub returns-then-weight-lt-PAGE_WEIGHT-clause-crash : goal.returns-then-weight-lt-PAGE_WEIGHT-clause-crash
-returns-then-weight-lt-PAGE_WEIGHT-clause-crash g c = leaves_nothing c.args.book.now (IsKeptOrNow c.args.book.now) (g.met.D.Disk.left_is_image _) c.facts.ensures.either
+pub returns-then-weight-limit-clause-crash : goal.returns-then-weight-limit-clause-crash
+returns-then-weight-limit-clause-crash g c = leaves_nothing c.args.book.now (IsKeptOrNow c.args.book.now) (g.met.D.Disk.left_is_image _) c.facts.ensures.either
     c.facts.ensures.history.replayed (by_nothing c.args.book.now c.facts.ensures.step) (inl refl) (inr refl)
 
 pub returns-in_err-new_page-clause-broken : goal.returns-in_err-new_page-clause-broken
@@ -46,12 +46,13 @@ returns-clause-worn g c = λ worn.
           (c.in_ok-new_page.ensures.all.idle (let within = c.facts.ensures.history.within in omega (arith, all, within))) ∙ worn
     ]
 
-pub returns-then-weight-lt-PAGE_WEIGHT-clause-short : goal.returns-then-weight-lt-PAGE_WEIGHT-clause-short
-returns-then-weight-lt-PAGE_WEIGHT-clause-short g c =
-    let light = c.if-weight-lt-PAGE_WEIGHT.true in
+pub returns-then-weight-limit-clause-short : goal.returns-then-weight-limit-clause-short
+returns-then-weight-limit-clause-short g c =
+    let light = c.if-weight-limit.true in
     let counted = c.weight-weight.ensures in
     let long = length_weighs (log_of c.args.book.now) in
-    omega (arith, light, counted, long)
+    let most = c.requires.limit.1 in
+    omega (arith, light, counted, long, most)
 
 pub returns-clause-spare : goal.returns-clause-spare
-returns-clause-spare g c = rw c.in_ok-new_page.ensures.log (omega arith)
+returns-clause-spare g c = (let some = c.requires.limit.0 in rw c.in_ok-new_page.ensures.log (omega (arith, some)))

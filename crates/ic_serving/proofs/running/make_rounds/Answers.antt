@@ -87,7 +87,7 @@ returns-clause-page g c =
 
 pub returns-in_err-keep_each-clause-begun : goal.returns-in_err-keep_each-clause-begun
 returns-in_err-keep_each-clause-begun g c =
-    let m : MakesRound c.loop-made.place c.in-Some.last c.loop-made.book c.make_round.new.book = rw c.in-Some.is at c.in_ok-make_round.ensures.made in
+    let m : MakesRound c.args.limit c.loop-made.place c.in-Some.last c.loop-made.book c.make_round.new.book = rw c.in-Some.is at c.in_ok-make_round.ensures.made in
     let more = one_more (table_of c.args.book.now) (last_kept c.args.book.now) c.args.count c.loop-made.made c.loop-made.place
     (table_of c.loop-made.book) (last_kept c.loop-made.book) (table_of c.make_round.new.book) (last_kept c.make_round.new.book)
     m.flight c.loop-made.invariant.run c.loop-made-test.true m.is_due m.advances.table m.advances.kept in
@@ -105,7 +105,7 @@ returns-in_err-keep_each-clause-begun g c =
 
 pub returns-in_err-keep_each-clause-crash : goal.returns-in_err-keep_each-clause-crash
 returns-in_err-keep_each-clause-crash g c =
-    let m : MakesRound c.loop-made.place c.in-Some.last c.loop-made.book c.make_round.new.book = rw c.in-Some.is at c.in_ok-make_round.ensures.made in
+    let m : MakesRound c.args.limit c.loop-made.place c.in-Some.last c.loop-made.book c.make_round.new.book = rw c.in-Some.is at c.in_ok-make_round.ensures.made in
     let more = one_more (table_of c.args.book.now) (last_kept c.args.book.now) c.args.count c.loop-made.made c.loop-made.place
     (table_of c.loop-made.book) (last_kept c.loop-made.book) (table_of c.make_round.new.book) (last_kept c.make_round.new.book)
     m.flight c.loop-made.invariant.run c.loop-made-test.true m.is_due m.advances.table m.advances.kept in
@@ -116,7 +116,7 @@ returns-in_err-keep_each-clause-crash g c =
 
 pub loop-made-preserved : goal.loop-made-preserved
 loop-made-preserved g c =
-    let m : MakesRound c.loop-made.place c.in-Some.last c.loop-made.book c.make_round.new.book = rw c.in-Some.is at c.in_ok-make_round.ensures.made in
+    let m : MakesRound c.args.limit c.loop-made.place c.in-Some.last c.loop-made.book c.make_round.new.book = rw c.in-Some.is at c.in_ok-make_round.ensures.made in
     let more = one_more (table_of c.args.book.now) (last_kept c.args.book.now) c.args.count c.loop-made.made c.loop-made.place
     (table_of c.loop-made.book) (last_kept c.loop-made.book) (table_of c.make_round.new.book) (last_kept c.make_round.new.book)
     m.flight c.loop-made.invariant.run c.loop-made-test.true m.is_due m.advances.table m.advances.kept in
@@ -226,7 +226,7 @@ returns-in-None-clause-few_calls g c = λ room.
 
 pub returns-in_err-keep_each-clause-few_calls : goal.returns-in_err-keep_each-clause-few_calls
 returns-in_err-keep_each-clause-few_calls g c = λ room.
-    let m : MakesRound c.loop-made.place c.in-Some.last c.loop-made.book c.make_round.new.book = rw c.in-Some.is at c.in_ok-make_round.ensures.made in
+    let m : MakesRound c.args.limit c.loop-made.place c.in-Some.last c.loop-made.book c.make_round.new.book = rw c.in-Some.is at c.in_ok-make_round.ensures.made in
     let more = one_more (table_of c.args.book.now) (last_kept c.args.book.now) c.args.count c.loop-made.made c.loop-made.place
     (table_of c.loop-made.book) (last_kept c.loop-made.book) (table_of c.make_round.new.book) (last_kept c.make_round.new.book)
     m.flight c.loop-made.invariant.run c.loop-made-test.true m.is_due m.advances.table m.advances.kept in

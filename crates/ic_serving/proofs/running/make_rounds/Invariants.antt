@@ -16,9 +16,9 @@ invariant-loop-made g l = record {
   counted : g.D.Disk.failures (disk_of l.book) ≡ g.D.Disk.failures (disk_of l.fn.book);
   ready : is_broken l.fn.book ≡ false → is_broken l.book ≡ false;
   broken : is_broken l.fn.book ≡ true → is_broken l.book ≡ true;
-  page : PageInRun l.count l.made l.place l.fn.book l.book;
+  page : PageInRun l.limit l.count l.made l.place l.fn.book l.book;
   few_unkept : IsAllKept l.fn.book → unkept_of l.book ≤ l.made % l.every;
-  calls : HasRoom (turns l.count 0 (table_of l.fn.book)) l.fn.book
+  calls : HasRoom l.limit (turns l.count 0 (table_of l.fn.book)) l.fn.book
       → g.D.Disk.clock (disk_of l.book) ≤ g.D.Disk.clock (disk_of l.fn.book) + 6 * (l.made / l.every);
   moments : Leaves l.fn.book l.book (IsKeptWithin (table_of l.fn.book) (last_kept l.fn.book) (turns l.count 0 (table_of l.fn.book)));
 }

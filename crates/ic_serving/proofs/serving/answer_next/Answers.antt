@@ -10,13 +10,13 @@ pub returns-in-Ok-clause-answered : goal.returns-in-Ok-clause-answered
 returns-in-Ok-clause-answered g c =
     let reads : ReadsLine c.args.lines.now.line (Ok (Asks c.in-Ok.command)) = subst (λ (r : Reading). ReadsLine c.args.lines.now.line r) c.in-Ok.ensures.command c.requires.reads in
     group_answered c.lines_are_served_in_one_way.ensures.joined c.one_line_reading.ensures.total c.args.most c.args.lines.now c.answer_group.new.lines c.args.book.now c.answer_group.new.book
-    c.in-Ok.command c.answer_group.result (λ v. v.answers.items) (λ v. v.count) reads c.answer_group.ensures.done c.answer_group.ensures.all c.answer_group.ensures.whole
+    c.args.limit c.in-Ok.command c.answer_group.result (λ v. v.answers.items) (λ v. v.count) reads c.answer_group.ensures.done c.answer_group.ensures.all c.answer_group.ensures.whole
 
 pub returns-in-Ok-clause-begun : goal.returns-in-Ok-clause-begun
 returns-in-Ok-clause-begun g c =
     let reads : ReadsLine c.args.lines.now.line (Ok (Asks c.in-Ok.command)) = subst (λ (r : Reading). ReadsLine c.args.lines.now.line r) c.in-Ok.ensures.command c.requires.reads in
     group_begun c.lines_are_served_in_one_way.ensures.joined c.one_line_reading.ensures.total c.args.most c.args.lines.now c.answer_group.new.lines c.args.book.now c.answer_group.new.book
-    c.in-Ok.command c.answer_group.result reads c.answer_group.ensures.begun c.answer_group.ensures.comes
+    c.args.limit c.in-Ok.command c.answer_group.result reads c.answer_group.ensures.begun c.answer_group.ensures.comes
 
 pub returns-in_err-answers-in-Err-clause-begun : goal.returns-in_err-answers-in-Err-clause-begun
 returns-in_err-answers-in-Err-clause-begun g c =

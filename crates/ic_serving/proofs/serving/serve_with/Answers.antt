@@ -123,7 +123,7 @@ returns-in_err-write_answer-clause-serving g c =
     let one = to_come c.take_one.new.lines (g.R.Read.remaining c.take_one.new.reader) in
     let next = to_come c.answer_next.new.lines (g.R.Read.remaining c.take_one.new.reader) in
     let done = ap (λ b. Ok b) c.if-not-branch.false in
-    let a : IsNextAnswered c.min-most.result c.take_one.new.lines c.answer_next.new.lines c.in_ok-answered.answered.answers.items c.in_ok-answered.answered.count c.loop.book c.answer_next.new.book =
+    let a : IsNextAnswered c.args.limit c.min-most.result c.take_one.new.lines c.answer_next.new.lines c.in_ok-answered.answered.answers.items c.in_ok-answered.answered.count c.loop.book c.answer_next.new.book =
     c.in_ok-answered.ensures.answered in
     let ls = c.take_one.new.lines.line ∷ a.more in
     let counted = a.counted in
@@ -164,7 +164,7 @@ loop-preserved g c =
     let one = to_come c.take_one.new.lines (g.R.Read.remaining c.take_one.new.reader) in
     let next = to_come c.answer_next.new.lines (g.R.Read.remaining c.take_one.new.reader) in
     let done = ap (λ b. Ok b) c.if-not-branch.false in
-    let a : IsNextAnswered c.min-most.result c.take_one.new.lines c.answer_next.new.lines c.in_ok-answered.answered.answers.items c.in_ok-answered.answered.count c.loop.book c.answer_next.new.book =
+    let a : IsNextAnswered c.args.limit c.min-most.result c.take_one.new.lines c.answer_next.new.lines c.in_ok-answered.answered.answers.items c.in_ok-answered.answered.count c.loop.book c.answer_next.new.book =
     c.in_ok-answered.ensures.answered in
     let ls = c.take_one.new.lines.line ∷ a.more in
     let counted = a.counted in

@@ -8,7 +8,7 @@ use Rattle.ic_serving.proofs.TakeLemmas.{is_taken, taken_unkept}
 use Rattle.ic_serving.proofs.taking.take_next.Goals as goal
 
 pub returns-in_default-clause-taken : goal.returns-in_default-clause-taken
-returns-in_default-clause-taken g c = ready_more 0 1 true true c.args.lines.now c.args.lines.now c.args.group.now.answers.items c.args.group.now.answers.items
+returns-in_default-clause-taken g c = λ limit. ready_more 0 1 true true c.args.lines.now c.args.lines.now c.args.group.now.answers.items c.args.group.now.answers.items
     c.args.group.now.count c.args.group.now.count c.args.book.now c.args.book.now
     (ready_none true c.args.lines.now c.args.group.now.answers.items c.args.group.now.count c.args.book.now c.args.book.now
     (come_none c.args.book.now (g.met.D.Disk.left_is_image _) c.facts.ensures.either c.facts.ensures.history.replayed (by_nothing c.args.book.now c.facts.ensures.step))
@@ -16,7 +16,7 @@ returns-in_default-clause-taken g c = ready_more 0 1 true true c.args.lines.now 
     (omega arith) (λ is. refl)
 
 pub returns-in_default-take-clause-taken : goal.returns-in_default-take-clause-taken
-returns-in_default-take-clause-taken g c =
+returns-in_default-take-clause-taken g c = λ limit.
     let u : IsUnchanged c.args.book.now c.take.new.self = c.in_default-take.ensures.refused refl in
     ready_more 0 1 true true c.args.lines.now c.args.lines.now c.args.group.now.answers.items c.args.group.now.answers.items
     c.args.group.now.count c.args.group.now.count c.args.book.now c.take.new.self
@@ -28,9 +28,9 @@ returns-in_default-take-clause-taken g c =
     (omega arith) (λ is. refl)
 
 pub returns-in_err-print_reply-clause-taken : goal.returns-in_err-print_reply-clause-taken
-returns-in_err-print_reply-clause-taken g c =
+returns-in_err-print_reply-clause-taken g c = λ limit.
     let said = c.in-Some.ensures in
-    let come = come_taken c.in-Some.command c.in-Ok.reply c.args.book.now c.take.new.self (g.met.D.Disk.left_is_image _) c.facts.ensures.either c.facts.ensures.history.replayed
+    let come = come_taken {limit = limit} c.in-Some.command c.in-Ok.reply c.args.book.now c.take.new.self (g.met.D.Disk.left_is_image _) c.facts.ensures.either c.facts.ensures.history.replayed
     (by_nothing c.args.book.now c.facts.ensures.step) c.facts.ensures.history.within c.facts-2.ensures.history.replayed c.in-Ok.ensures.step.taken
     c.take.ensures.crash.keeps c.take.ensures.crash.made c.take.ensures.crash.any_moment in
     ready_one _ c.in-Some.command said.0 c.args.lines.now c.pass_line.new.self c.args.group.now.answers.items c.args.group.now.answers.items c.args.group.now.count c.args.group.now.count
@@ -40,9 +40,9 @@ returns-in_err-print_reply-clause-taken g c =
     (by_nothing c.take.new.self c.facts-2.ensures.step)
 
 pub returns-in_err-answer-clause-taken : goal.returns-in_err-answer-clause-taken
-returns-in_err-answer-clause-taken g c =
+returns-in_err-answer-clause-taken g c = λ limit.
     let said = c.in-Some.ensures in
-    let come = come_taken c.in-Some.command c.in-Ok.reply c.args.book.now c.take.new.self (g.met.D.Disk.left_is_image _) c.facts.ensures.either c.facts.ensures.history.replayed
+    let come = come_taken {limit = limit} c.in-Some.command c.in-Ok.reply c.args.book.now c.take.new.self (g.met.D.Disk.left_is_image _) c.facts.ensures.either c.facts.ensures.history.replayed
     (by_nothing c.args.book.now c.facts.ensures.step) c.facts.ensures.history.within c.facts-2.ensures.history.replayed c.in-Ok.ensures.step.taken
     c.take.ensures.crash.keeps c.take.ensures.crash.made c.take.ensures.crash.any_moment in
     ready_one _ c.in-Some.command said.0 c.args.lines.now c.pass_line.new.self c.args.group.now.answers.items c.args.group.now.answers.items c.args.group.now.count c.args.group.now.count
@@ -52,9 +52,9 @@ returns-in_err-answer-clause-taken g c =
     (by_nothing c.take.new.self c.facts-2.ensures.step)
 
 pub returns-in_err-extend_from_slice-clause-taken : goal.returns-in_err-extend_from_slice-clause-taken
-returns-in_err-extend_from_slice-clause-taken g c =
+returns-in_err-extend_from_slice-clause-taken g c = λ limit.
     let said = c.in-Some.ensures in
-    let come = come_taken c.in-Some.command c.in-Ok.reply c.args.book.now c.take.new.self (g.met.D.Disk.left_is_image _) c.facts.ensures.either c.facts.ensures.history.replayed
+    let come = come_taken {limit = limit} c.in-Some.command c.in-Ok.reply c.args.book.now c.take.new.self (g.met.D.Disk.left_is_image _) c.facts.ensures.either c.facts.ensures.history.replayed
     (by_nothing c.args.book.now c.facts.ensures.step) c.facts.ensures.history.within c.facts-2.ensures.history.replayed c.in-Ok.ensures.step.taken
     c.take.ensures.crash.keeps c.take.ensures.crash.made c.take.ensures.crash.any_moment in
     ready_one _ c.in-Some.command said.0 c.args.lines.now c.pass_line.new.self c.args.group.now.answers.items c.extend_from_slice.new.self.items c.args.group.now.count c.args.group.now.count
@@ -64,9 +64,9 @@ returns-in_err-extend_from_slice-clause-taken g c =
     (by_nothing c.take.new.self c.facts-2.ensures.step)
 
 pub returns-clause-taken : goal.returns-clause-taken
-returns-clause-taken g c =
+returns-clause-taken g c = λ limit.
     let said = c.in-Some.ensures in
-    let come = come_taken c.in-Some.command c.in-Ok.reply c.args.book.now c.take.new.self (g.met.D.Disk.left_is_image _) c.facts.ensures.either c.facts.ensures.history.replayed
+    let come = come_taken {limit = limit} c.in-Some.command c.in-Ok.reply c.args.book.now c.take.new.self (g.met.D.Disk.left_is_image _) c.facts.ensures.either c.facts.ensures.history.replayed
     (by_nothing c.args.book.now c.facts.ensures.step) c.facts.ensures.history.within c.facts-2.ensures.history.replayed c.in-Ok.ensures.step.taken
     c.take.ensures.crash.keeps c.take.ensures.crash.made c.take.ensures.crash.any_moment in
     ready_one true c.in-Some.command said.0 c.args.lines.now c.pass_line.new.self c.args.group.now.answers.items c.extend_from_slice.new.self.items c.args.group.now.count (c.args.group.now.count + 1)

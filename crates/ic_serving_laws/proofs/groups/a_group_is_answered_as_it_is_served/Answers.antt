@@ -6,7 +6,7 @@ use Rattle.ic_serving.specs.lemmas.Taken.{taken_out}
 use Rattle.ic_serving_laws.proofs.groups.a_group_is_answered_as_it_is_served.Goals as goal
 
 pub returns-clause-served : goal.returns-clause-served
-returns-clause-served g c = λ ls bytes is.
+returns-clause-served g c = λ limit ls bytes is.
     let out = taken_out is.commands bytes c.args.before.now is.between is.taken in
     record {
       readings = map (λ (m : Command). Ok (Asks m)) is.commands;
@@ -16,16 +16,16 @@ returns-clause-served g c = λ ls bytes is.
     }
 
 pub returns-clause-kept : goal.returns-clause-kept
-returns-clause-kept g c = λ ls bytes is. is.all
+returns-clause-kept g c = λ limit ls bytes is. is.all
 
 pub returns-clause-whole : goal.returns-clause-whole
-returns-clause-whole g c = λ ls bytes is. is.whole
+returns-clause-whole g c = λ limit ls bytes is. is.whole
 
 pub returns-clause-fresh : goal.returns-clause-fresh
-returns-clause-fresh g c = λ ls bytes is. is.fresh
+returns-clause-fresh g c = λ limit ls bytes is. is.fresh
 
 pub returns-clause-page : goal.returns-clause-page
-returns-clause-page g c = λ ls bytes is. is.page
+returns-clause-page g c = λ limit ls bytes is. is.page
 
 pub returns-clause-calls : goal.returns-clause-calls
-returns-clause-calls g c = λ ls bytes is. is.calls
+returns-clause-calls g c = λ limit ls bytes is. is.calls

@@ -30,4 +30,4 @@ returns-clause-within g c = λ es w.
     (length w.front, omega (arith, sum), subst (λ (f : List Event). GoesOn f c.args.before.now c.args.after.now) (sym front) w.goes)
 
 pub returns-clause-room : goal.returns-clause-room
-returns-clause-room g c = λ es. (λ h. h, λ h. h)
+returns-clause-room g c = λ limit es. (λ h. h, λ h. h)

@@ -11,9 +11,9 @@ pub returns-clause-run : goal.returns-clause-run
 returns-clause-run g c count bytes done = (done.earlier, done.last)
 
 pub returns-clause-group : goal.returns-clause-group
-returns-clause-group g c ls bytes is =
+returns-clause-group g c limit ls bytes is =
     let own = moves_taken is.commands bytes c.args.old.now is.between is.taken in (
       is.kept.earlier ++ own,
       ap (λ (ms : List Move). ms ++ own) is.kept.last,
-      group_taken ls bytes c.args.old.now c.args.new.now is,
+      group_taken limit ls bytes c.args.old.now c.args.new.now is,
     )

@@ -26,7 +26,7 @@ returns-clause-once g c done later between earlier who other command second repl
     once_by done.moves later between earlier who other command second reply answer c.args.old.now c.args.new.now done.calls
 
 pub returns-clause-group : goal.returns-clause-group
-returns-clause-group g c most fault ls before after serving one other =
+returns-clause-group g c limit most fault ls before after serving one other =
     let ended = serving.ended other in (
       ended.answered.answers,
       ended.between,

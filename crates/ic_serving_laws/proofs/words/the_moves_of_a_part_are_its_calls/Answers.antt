@@ -2,7 +2,7 @@ use Rattle.ic_serving_laws.proofs.ServedLemmas.{calls_run, turns_run}
 use Rattle.ic_serving_laws.proofs.words.the_moves_of_a_part_are_its_calls.Goals as goal
 
 pub returns-clause-lines : goal.returns-clause-lines
-returns-clause-lines g c serving = turns_run serving.front serving.old serving.answering serving.first_lines
+returns-clause-lines g c serving = turns_run serving.limit serving.front serving.old serving.answering serving.first_lines
 
 pub returns-clause-none : goal.returns-clause-none
 returns-clause-none g c moves are = are
