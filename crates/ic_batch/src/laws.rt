@@ -284,7 +284,7 @@ pub fn a_batch_calls_the_disk_so<D: Disk>(old: &Book<D>, new: &Book<D>)
 ///
 /// Over a broken book it never ends well: where it has begun it tells that the book is broken, or that
 /// memory ran out. At a failure of the disk the book is broken then, and one more failure is counted.
-/// Where no fault is told, none is counted.
+/// Any other fault breaks no book. Where it is told, or none is, no failure is counted.
 pub fn a_batch_fails_so<D: Disk>(old: &Book<D>, new: &Book<D>)
     ensures nothing { (most : ℕ) (jobs : List NewJob) (name : List ℕ) (is : Difference)
         → Says most jobs old.now new.now (Taken name is)
@@ -327,6 +327,10 @@ pub fn a_batch_fails_so<D: Disk>(old: &Book<D>, new: &Book<D>)
     ensures worn { (most : ℕ) → Fails most (by_book of_book.Worn) old.now new.now
         → is_broken old.now ≡ false
         → (is_broken new.now ≡ false) × (number_of new.now ≡ 2 ^ 64 - 1) }
+    ensures others { (most : ℕ) (fault : ServeFault) → fault ≢ by_book of_book.Device
+        → Fails most fault old.now new.now
+        → (D.failures (disk_of new.now) ≡ D.failures (disk_of old.now))
+        × (is_broken old.now ≡ false → is_broken new.now ≡ false) }
     ensures none { (jobs : List NewJob) → Succeeds jobs old.now new.now
         → AreSame jobs (table_of old.now)
         × (D.failures (disk_of new.now) ≡ D.failures (disk_of old.now))

@@ -1,6 +1,7 @@
 use Rattle.std.proofs.Common.{inl, inr}
-use Rattle.ic_book.specs.Book.{table_of}
+use Rattle.ic_book.specs.Book.{disk_of, is_broken, number_of, table_of}
 use Rattle.ic_batch.proofs.ComeLemmas.{goes_with, moves_with}
+use Rattle.ic_batch.proofs.FaultLemmas.{breaks_none, counts_none}
 use Rattle.ic_batch.proofs.NumberLemmas.{one_line}
 use Rattle.ic_batch.proofs.laws.a_batch_fails_so.Goals as goal
 
@@ -47,6 +48,12 @@ returns-clause-device g c most fails well = (fails.breaks well, fails.counted)
 
 pub returns-clause-worn : goal.returns-clause-worn
 returns-clause-worn g c most fails well = fails.breaks well
+
+pub returns-clause-others : goal.returns-clause-others
+returns-clause-others g c most fault other fails = (
+  counts_none fault (g.D.Disk.failures (disk_of c.args.old.now)) (g.D.Disk.failures (disk_of c.args.new.now)) other fails.counted,
+  λ well. breaks_none fault (is_broken c.args.new.now) (number_of c.args.new.now) other (fails.breaks well),
+)
 
 pub returns-clause-none : goal.returns-clause-none
 returns-clause-none g c jobs is = (is.same, is.counted, is.unbroken, is.whole)
