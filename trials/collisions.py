@@ -1,6 +1,8 @@
 """Names and symbols that are found slowly by a hash with a fixed seed: all of them stand in one group of its table. They are
-chosen for the hash of the kit's maps, whose seed and steps stand here."""
+chosen for the hash of the kit's maps, whose seed and steps stand here. Those of a slot are chosen for the slots of names in
+`ic_flat_round`."""
 
+import functools
 import itertools
 import string
 
@@ -29,15 +31,28 @@ def mask_for(count):
     return groups - 1
 
 
-def numbers(count, keys):
-    """The first keys of one group, in a table of so many."""
+@functools.cache
+def numbers(count, begin):
+    """The first keys of one group from a number on, in a table of so many."""
     mask, factor = mask_for(count), FACTOR ^ 16
-    chosen = (key for key in keys if is_first(folded(SEED ^ key, factor), mask))
-    return list(itertools.islice(chosen, count))
+    chosen = (key for key in itertools.count(begin) if is_first(folded(SEED ^ key, factor), mask))
+    return tuple(itertools.islice(chosen, count))
 
 
 def names(count, begin=2**24):
-    return [model.name_text(number) for number in numbers(count, itertools.count(begin))]
+    return [model.name_text(number) for number in numbers(count, begin)]
+
+
+def names_of_a_slot(count, bits=14):
+    """The first names of the first of 2^bits slots. From one of them to the next leads one of two steps, or both."""
+    most = 2 ** (64 - bits)
+    ahead = next(step for step in itertools.count(1) if step * FACTOR & LOW < most)
+    back = next(step for step in itertools.count(1) if -step * FACTOR & LOW < most)
+    number, chosen = 0, []
+    while len(chosen) < count:
+        chosen.append(model.name_text(number))
+        number += next(step for step in sorted((ahead, back, ahead + back)) if (number + step) * FACTOR & LOW < most)
+    return chosen
 
 
 def words(count, prefix):

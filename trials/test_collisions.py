@@ -6,11 +6,11 @@ import resource
 import string
 
 import model
-from collisions import long_names, names, symbols
+from collisions import long_names, names, names_of_a_slot, symbols
 from program import IN_MEMORY, Trial, run
 
-# So many of them stand in a text.
-MANY = 8_192
+# So many of them stand in a text, or in one that is served.
+MANY, SERVED = 8_192, 8_180
 
 # No text costs more than this many times what an ordinary one costs, and as many seconds more.
 TIMES, NOISE = 3, 0.02
@@ -25,26 +25,46 @@ class Collisions(Trial):
     rooms = IN_MEMORY
     seconds = 20
 
-    def cost(self, command, text, ended):
-        """The least processor time that a command takes of three, each of which ends so."""
+    def cost(self, command, text, ended, runs):
+        """The least processor time that so many runs of a command take of three times, each of which ends so."""
         least = float("inf")
         for _ in range(3):
             before = spent()
-            ran = run(*command.split(), given=text)
+            for _ in range(runs):
+                ran = run(*command.split(), given=text)
+                self.equals(ran.command, "status and standard error", ended, (ran.status, ran.err))
             least = min(least, spent() - before)
-            self.equals(ran.command, "status and standard error", ended, (ran.status, ran.err))
         return least
 
-    def costs_alike(self, command, chosen, ordinary, written, ended=(0, b"")):
+    def costs_alike(self, command, chosen, ordinary, written, ended=(0, b""), runs=1):
         drawn = self.draws()
         for words in (chosen, ordinary):
             drawn.shuffle(words)
-        slow, usual = (self.cost(command, written(words), ended) for words in (chosen, ordinary))
+        slow, usual = (self.cost(command, written(words), ended, runs) for words in (chosen, ordinary))
         self.equals(f"icserve {command}", f"{slow:.3f} s of processor time beside {usual:.3f}", True, slow <= TIMES * usual + NOISE)
 
+    def ordinary_names(self):
+        return [model.name_text(number) for number in self.draws("names").sample(range(2**24, 2**31), MANY)]
+
     def test_names(self):
-        ordinary = [model.name_text(number) for number in self.draws("names").sample(range(2**24, 2**31), MANY)]
-        self.costs_alike("reduce", names(MANY), ordinary, lambda all_of_them: f"{{}} <{','.join(all_of_them)}|{','.join(f'{it}=A' for it in all_of_them)}>")
+        self.costs_alike("reduce", names(MANY), self.ordinary_names(), lambda all_of_them: f"{{}} <{','.join(all_of_them)}|{','.join(f'{it}=A' for it in all_of_them)}>")
+
+    def test_served_names(self):
+        """Names of equations that stay, two of each, beside a pair that fires in each round."""
+
+        def stay(all_of_them):
+            return f"<|A(x)=B(x),{','.join(f'{one}={two}' for one, two in zip(all_of_them[:SERVED:2], all_of_them[1:SERVED:2]))}>"
+
+        def goes_on(all_of_them):
+            return f"{{A(B(x))><B(A(x))}} {stay(all_of_them)}"
+
+        serve = f"serve --disk {self.disk()} --workers 1"
+        for chosen in (names(MANY), names_of_a_slot(MANY)):
+            ordinary = self.ordinary_names()
+            self.costs_alike("settle", chosen, ordinary, stay, runs=4)
+            for command in ("once", "draw"):
+                self.costs_alike(command, chosen, ordinary, goes_on, runs=4)
+            self.costs_alike(serve, chosen, ordinary, lambda it: f"submit a {goes_on(it)}\nrun 20\ncancel a\n")
 
     def test_symbols(self):
         ordinary = [f"A{number:04}" for number in range(MANY)]
