@@ -9,11 +9,12 @@ ghost use Rattle.ic_frames.specs.Keeping.{FaultLeaves, WritesSlot};
 ghost use Rattle.ic_frames.specs.Layout.{slot_bytes};
 ghost use Rattle.ic_frames.specs.Places.{place};
 ghost use Rattle.ic_book.specs.declared.fault.BookFault.{BookFault};
-ghost use Rattle.ic_book.specs.Book.{disk_of, kept_of, log_of};
+ghost use Rattle.ic_book.specs.Book.{disk_of, kept_of, log_of, table_of};
 ghost use Rattle.ic_book.specs.Calls.{KeepsAll};
-ghost use Rattle.ic_book.specs.Weight.{weight_of};
+ghost use Rattle.ic_book.specs.Weight.{weigh, weight_of};
 ghost use Rattle.ic_commands.specs.declared.line.Line.TheVariants.{Run};
 ghost use Rattle.ic_commands.specs.LineText.{ReadsLine};
+ghost use Rattle.ic_lines.specs.Answers.{Reading, events};
 ghost use Rattle.ic_serving.specs.Answered.{CallsFewFor};
 
 use ic_book::Book;
@@ -45,6 +46,20 @@ pub fn a_run_makes_few_calls<D: Disk>(before: &Book<D>, after: &Book<D>)
 {
     ic_commands::laws::one_line_reading();
     ic_lines::laws::runs_are_rounds_in_turn();
+    let _ = before;
+    let _ = after;
+}
+
+/// Where the page has room for all that a line asks for and for one entry more, answering the line makes
+/// at most six calls to the disk for each `every` of its rounds, halts or commands, and six at the end.
+pub fn a_line_makes_few_calls<D: Disk>(before: &Book<D>, after: &Book<D>)
+    ensures { (line : List ℕ) (a : Reading) (every : ℕ) → ReadsLine line a
+        → CallsFewFor line every before.now after.now
+        → weight_of (log_of before.now) + weigh (events (table_of before.now) a) < 65536
+        → D.clock (disk_of after.now) ≤ D.clock (disk_of before.now)
+        + 6 * (length (events (table_of before.now) a) / every + 1) }
+{
+    ic_commands::laws::one_line_reading();
     let _ = before;
     let _ = after;
 }

@@ -38,7 +38,7 @@ ghost use Rattle.ic_serving.specs.Answered.{IsAnswered, IsBegun};
 ghost use Rattle.ic_serving.specs.Booked.{last_kept, unkept_of, IsAllKept};
 ghost use Rattle.ic_serving.specs.Faults.{fault_of_line, ComesAlone, ComesBroken, ComesInLine, ComesUnmade, ComesWithoutRound, MayCome, CountsServe, StaysReady};
 ghost use Rattle.ic_serving.specs.Grown.{GoesOn, GoesOnWithin, HasRoom};
-ghost use Rattle.ic_serving.specs.Moments.{Leaves, IsKeptInLine};
+ghost use Rattle.ic_serving.specs.Moments.{FaultLeaves, Leaves, IsKeptInLine};
 ghost use Rattle.ic_serving.specs.Parts.{IsBeforeRound, IsPart, IsKeptWithin, IsInFew, IsInLine, IsInFirst};
 ghost use Rattle.ic_serving.specs.Served.{OfLines, IsReadOut, MayBeServed, AreAnswered, AppendsFront, SaysOf, IsLeftBy, IsEnded, IsCut};
 ghost use Rattle.ic_serving.specs.Serving.{IsServing};
@@ -419,6 +419,29 @@ pub fn causes_say()
     ensures worn { (broken : Bool) (number : ℕ)
         → StaysReady (by_book book_fault.Worn) broken number → number ≡ 2 ^ 64 - 1 }
 {}
+
+/// At Ok a call counts no failure of the disk, and breaks no book. At a fault it is one that may come,
+/// and failures are counted and the book is broken as `causes_say` tells of it.
+pub fn a_call_leaves_by_its_answer<D: Disk>(before: &Book<D>, after: &Book<D>)
+    ensures well { (may : ServeFault → Bool) (done : Unit {0})
+        → FaultLeaves (λ fault. may fault ≡ true) (Ok done) before.now after.now
+        → (D.failures (disk_of after.now) ≡ D.failures (disk_of before.now))
+        × (is_broken before.now ≡ false → is_broken after.now ≡ false) }
+    ensures may { (may : ServeFault → Bool) (fault : ServeFault)
+        → FaultLeaves {T = Unit {0}} (λ fault. may fault ≡ true) (Err fault) before.now after.now
+        → may fault ≡ true }
+    ensures counted { (may : ServeFault → Bool) (fault : ServeFault)
+        → FaultLeaves {T = Unit {0}} (λ fault. may fault ≡ true) (Err fault) before.now after.now
+        → CountsServe {T = Unit {0}} (Err fault) (D.failures (disk_of before.now))
+        (D.failures (disk_of after.now)) }
+    ensures ready { (may : ServeFault → Bool) (fault : ServeFault)
+        → FaultLeaves {T = Unit {0}} (λ fault. may fault ≡ true) (Err fault) before.now after.now
+        → is_broken before.now ≡ false
+        → StaysReady fault (is_broken after.now) (number_of after.now) }
+{
+    let _ = before;
+    let _ = after;
+}
 
 /// What a stop in the midst of a call leaves is claimed of a disk that keeps the model and is made:
 /// a file that holds one of these tables. After the call it keeps the model where it did before,
