@@ -104,9 +104,10 @@ class LargeOnes(Hosts, Texts):
         self.equals("the servers of ssh", "whether they still run", [None, None], [it.poll() for it in hosts])
 
     def test_a_text_on_a_device_that_fills_goes_on_once_there_is_room(self):
+        """The device has room for what is kept of a wide net."""
         draw = self.draws()
         texts = {"one": drawn_text(draw)}
-        with self.device(2**20) as folder:
+        with self.device(2**26) as folder:
             (self.room / "texts").symlink_to(folder)
             (folder / "one.ic").write_text(texts["one"] + "\n")
             ran = self.script("large", "texts/one.ic", "--steps", "100")
@@ -117,7 +118,8 @@ class LargeOnes(Hosts, Texts):
                 ran = self.script("large", "texts/one.ic")
                 self.equals(ran.command, f"status where {pages} pages are free; it said {ran.err}", True, ran.status in (3, 4))
                 (folder / "more").unlink()
-            self.ended(self.script("large", "texts/one.ic"))
+            ran = self.script("large", "texts/one.ic")
+            self.equals(ran.command, f"status; it said {ran.err}", 0, ran.status)
             self.end_as_unbroken(texts)
 
 
