@@ -115,6 +115,13 @@ def copy(folder, to):
     shutil.copytree(folder, to, ignore=shutil.ignore_patterns("__pycache__", "*.egg-info", "build"))
 
 
+def lay_pages(folder):
+    """Puts the pages into a folder, as they stand in a clone."""
+    copy(TOP / "docs", folder / "docs")
+    for it in TOP.glob("*.md"):
+        shutil.copy(it, folder)
+
+
 def archive(folder, path):
     """Writes a folder as a compressed archive, whatever its files' times and owners are."""
 
@@ -156,8 +163,8 @@ def main(program, name, folder):
         tree = Path(room, f"{name}-{version}")
         lay(program, tree)
         (tree / "START").write_text(told_in(name, says, ARCHIVE))
-        shutil.copy(TOP / "README.md", tree)
-        for it in ("docs", "examples", "cluster", "lib", "python"):
+        lay_pages(tree)
+        for it in ("examples", "cluster", "lib", "python"):
             copy(TOP / it, tree / it)
         for it in ("icserve", *pages.SCRIPTS):
             (tree / it.split("-")[-1]).symlink_to(f"bin/{it}")
@@ -169,8 +176,7 @@ def main(program, name, folder):
                 copy(tree / it, root / "usr" / it)
             copy(TOP / "python/icserve", root / "usr/lib/python3/dist-packages/icserve")
             doc = root / "usr/share/doc/icserve"
-            copy(TOP / "docs", doc / "docs")
-            shutil.copy(TOP / "README.md", doc)
+            lay_pages(doc)
             (doc / "START").write_text(told_in(name, says, PACKAGE))
             for it in ("lib", "examples", "cluster"):
                 (doc / it).symlink_to(f"../../icserve/{it}")
