@@ -175,6 +175,12 @@ class Progress(Trial):
             is_told = all(made % 4_096 == 0 and pace > 0 and nodes < 10 for made, pace, nodes in lines)
             self.equals(self.command, f"pieces of a run, and few nodes: {lines}", True, is_told)
 
+    def test_a_trace_whose_picture_comes_at_its_end_shows_its_line(self):
+        status, out, _, shown, took = self.shows(["trace", "--rounds", 2_000_000, "--format", "svg"], LOOP.text, out=False)
+        self.equals(self.command, "status and picture", (0, True), (status, out.endswith(b"</svg>\n")))
+        lines = self.lines_of(shown, took, OF_A_NET)
+        self.equals(self.command, f"a line came, of few nodes: {lines}", True, bool(lines) and all(nodes < 10 for _, _, nodes in lines))
+
     def test_a_line_stays_in_one_row_of_a_terminal_of_40_columns(self):
         for words, given in ((["reduce", "--steps", 10_000_000], LOOP.text), (["serve", "--disk", self.jobs], LONG)):
             _, _, _, shown, _ = self.shows(words, given, out=False, columns=40)

@@ -4,12 +4,13 @@ systems beside those of the model and of `once`, and what is told where a bound 
 import json
 import os
 import re
+import subprocess
 from collections import Counter
 
 import draws
 import model
 import nets
-from program import IN_MEMORY, TOP, Trial, run
+from program import IN_MEMORY, PROGRAM, TOP, Trial, run
 from test_in_place import DOUBLES, numeral, stats_of
 
 SYSTEMS = int(os.environ.get("SYSTEMS") or 200)
@@ -221,6 +222,16 @@ class WideRounds(Trial):
             self.equals(ran.command, "that the title says it", True, told.encode() in ran.out)
             self.equals(ran.command, "the sum of all bars", rounds, sum(int(it[1]) for it in bars))
             self.equals(ran.command, "how many bars", -(-rounds // width), len(bars))
+
+    def test_rows_come_while_further_rounds_are_made(self):
+        pipes = {"stdin": subprocess.PIPE, "stdout": subprocess.PIPE}
+        with subprocess.Popen([PROGRAM, "trace", "--rounds", "1000000000"], **pipes) as started:
+            started.stdin.write(LOOP.encode())
+            started.stdin.close()
+            rows = [started.stdout.readline() for _ in range(100)]
+            runs = started.poll() is None
+            started.kill()
+        self.equals("trace of a loop", "the 99th row, and whether the program runs", (b"99\t1\t", True), (rows[-1][:5], runs))
 
     def test_figures_tell_how_many_rounds_were_made(self):
         text = (TOP / "examples/sort.ic").read_text()
