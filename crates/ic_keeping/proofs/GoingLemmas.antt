@@ -69,13 +69,14 @@ pub record IsEndOf (s : SystemParts) (bounds : Bounds) (most : ℕ) (k : Kept) (
   pub onward : IsReachedFrom s k (kept_by state)
   pub by_rounds : (made : ℕ) → k.rounds ≡ Some made → (n : ℕ) × (rounds ≡ Some n) × (n ≤ max most made)
       × IsAnswerByRounds s most n e answer.answer state.interactions state.by_rule.items
+  pub no_fewer : (made n : ℕ) → k.rounds ≡ Some made → rounds ≡ Some n → (made ≤ n) ⊎ ((n ≡ 0) × (state.interactions ≡ 0))
   pub any_order : k.rounds ≡ None → rounds ≡ None
   pub between : (made : ℕ) → k.rounds ≡ Some made → made < most → (e ≡ Quiet) ⊎ (e ≡ Steps) → state.rounds ≡ rounds
 
 has_run_so : (s : SystemParts) (bounds : Bounds) (most : ℕ) (asked : Asked) (k : Kept) (run : Ended) → IsTold s asked run → IsEndOf s bounds most k run.rounds run.end run.state
     → HasRun s bounds most asked k run
 has_run_so s bounds most asked k run told is =
-    record { within = is.within; bounded = is.bounded; answer = is.answer; told = told; onward = is.onward; by_rounds = is.by_rounds; any_order = is.any_order; between = is.between }
+    record { within = is.within; bounded = is.bounded; answer = is.answer; told = told; onward = is.onward; by_rounds = is.by_rounds; no_fewer = is.no_fewer; any_order = is.any_order; between = is.between }
 
 pub run_is : (s : SystemParts) (bounds : Bounds) (most : ℕ) (asked : Asked) (k : Kept) (state : State) (e : End) (run : Ended) → run.state ≡ state → run.end ≡ e
     → IsTold s asked run → IsEndOf s bounds most k run.rounds e state → HasRun s bounds most asked k run
@@ -120,6 +121,12 @@ end_by_rounds s most top e answer interactions by_rule told over n is low betwee
       },
     ))
     (some n is)
+
+-- they are no fewer than were made before, unless no pair has fired
+pub no_fewer_told : (told : Option ℕ) (made over n interactions : ℕ) → (told ≡ Some over) ⊎ ((told ≡ Some 0) × (interactions ≡ 0)) → made ≤ over → told ≡ Some n
+    → (made ≤ n) ⊎ ((n ≡ 0) × (interactions ≡ 0))
+no_fewer_told told made over n interactions (inl all) low is = inl (let same : over ≡ n = cc (sym all ∙ is) in omega (arith, low, same))
+no_fewer_told told made over n interactions (inr none) low is = inr (let same : n ≡ 0 = cc (sym none.0 ∙ is) in (same, none.1))
 
 -- how far a run from any state has gone on with such a state
 pub record GoneTo (bounds : Bounds) (old : State) (e : End) (state : State) : Type 0 where

@@ -51,7 +51,7 @@ pub record IsTold (s : SystemParts) (asked : Asked) (ended : Ended) : Type 0 whe
 
 -- A run from this state of the reduction has ended so. Its answer is one of the system, and is reached from that state. In any
 -- order it is one within these bounds, and no rounds are told. By rounds it is the net after as many as are told, at most so many,
--- or as were made before.
+-- or as were made before, and no fewer than these, unless no pair has fired at all.
 pub record HasRun (s : SystemParts) (bounds : Bounds) (most : ℕ) (asked : Asked) (k : Kept)
     (run : Ended) : Type 0 where
   pub within : Bounds
@@ -62,6 +62,8 @@ pub record HasRun (s : SystemParts) (bounds : Bounds) (most : ℕ) (asked : Aske
   pub by_rounds : (made : ℕ) → k.rounds ≡ Some made → (rounds : ℕ) × (run.rounds ≡ Some rounds)
       × (rounds ≤ max most made) × IsAnswerByRounds s most rounds run.end answer.answer
       run.state.interactions run.state.by_rule.items
+  pub no_fewer : (made rounds : ℕ) → k.rounds ≡ Some made → run.rounds ≡ Some rounds
+      → (made ≤ rounds) ⊎ ((rounds ≡ 0) × (run.state.interactions ≡ 0))
   pub any_order : k.rounds ≡ None → run.rounds ≡ None
   pub between : (made : ℕ) → k.rounds ≡ Some made → made < most
       → (run.end ≡ Quiet) ⊎ (run.end ≡ Steps) → run.state.rounds ≡ run.rounds
@@ -151,6 +153,13 @@ module _ {D : Type 0} (disk : Ghosts D) where
   abbrev pub HasFailed : (first second : D) → ResumeFault D → Type 0
   HasFailed first second fault = OneMore (disk.failures first) (disk.failures fault.first)
       ⊎ OneMore (disk.failures second) (disk.failures fault.second)
+
+  -- A reduction isn't begun in two files, which a fault hands back. Where memory runs out or a limit is met, nothing was done with
+  -- them. Files that hold something were only read.
+  pub record IsNotBegun (first second : D) (fault : ResumeFault D) : Type 0 where
+    pub stops : StopsABegin fault.cause
+    pub untouched : (fault.cause ≡ Memory) ⊎ (fault.cause ≡ Limit) → (fault.first ≡ first) × (fault.second ≡ second)
+    pub spared : fault.cause ≡ NotEmpty → IsRead first fault.first × IsRead second fault.second
 
   -- reads give files that hold a state of the reduction of this system, which goes no less far than this one
   pub record HoldAState (s : SystemParts) (from : Kept) (first second : D) : Type 0 where

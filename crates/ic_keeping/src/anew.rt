@@ -7,7 +7,7 @@ ghost use Rattle.ic_rules.specs.System.{SystemParts};
 ghost use Rattle.ic_state.specs.State.{kept_by};
 ghost use Rattle.ic_state.specs.Words.{IsKeptWord};
 ghost use Rattle.ic_keeping.specs.declared.fault.KeepingFault.{KeepingFault};
-ghost use Rattle.ic_keeping.specs.Life.{AreEmpty, EndsBetween, GoesOn, HasAsFar, HasFailed, HasRun, IsFirstLife, IsRead, IsStartOf, KeepModel, StopsABegin, StopsARun, StopsAt};
+ghost use Rattle.ic_keeping.specs.Life.{AreEmpty, EndsBetween, GoesOn, HasAsFar, HasFailed, HasRun, IsFirstLife, IsNotBegun, IsRead, IsStartOf, KeepModel, StopsABegin, StopsARun, StopsAt};
 ghost use Rattle.ic_keeping.specs.Way.{ComesPastLimits};
 
 use crate::beginning::{ResumeFault, Start, begin};
@@ -39,9 +39,9 @@ impl<T: Threads + Sync, C: Clock + Sync, V: Watch> Run<'_, T, C, V> {
             × IsFirstLife D.Disk s (kept_by start.state) lived.1
             × (EndsBetween (kept_by start.state) lived.0
             → HasAsFar D.Disk s (kept_by lived.0.state) lived.1)) }
-        // So it is where it stops by a fault, unless it is refused the files: then they are as `begin` leaves them.
+        // So it is where it stops by a fault, unless it hasn't begun the files: then they are as `begin` leaves them.
         ensures stopped { (s : SystemParts) → IsStartOf s start → KeepModel D.Disk first second
-            → IfErr result (λ fault. StopsABegin fault.cause ⊎ ((n : Keeper D)
+            → IfErr result (λ fault. IsNotBegun D.Disk first second fault ⊎ ((n : Keeper D)
             × (life : IsFirstLife D.Disk s (kept_by start.state) n)
             × StopsAt s (kept_by start.state) life.keeper n fault)) }
         // Files of which one holds something are only read, and refused.

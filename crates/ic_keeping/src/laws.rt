@@ -38,13 +38,13 @@ ghost use Rattle.ic_kept.specs.Lives.{Lives};
 ghost use Rattle.ic_kept.specs.Opening.{InSomeOrder};
 ghost use Rattle.ic_kept.specs.Sheet.{IsNewest, IsShut};
 ghost use Rattle.ic_rules.specs.System.{SystemParts};
-ghost use Rattle.ic_state.specs.State.{Kept, IsKept, state_bytes};
+ghost use Rattle.ic_state.specs.State.{Kept, IsKept, kept_by, state_bytes};
 ghost use Rattle.ic_text.specs.SystemText.{ReadsSystemWithin};
 ghost use Rattle.ic_text.specs.declared.limits.Limits.TheVariants.{Wide};
 ghost use Rattle.ic_text.specs.declared.limits.TheConstants.{MAX_NAME};
 ghost use Rattle.ic_keeping.specs.declared.fault.KeepingFault.TheVariants as keeping;
 ghost use Rattle.ic_keeping.specs.declared.going.Ended.{Ended};
-ghost use Rattle.ic_keeping.specs.Life.{HasAsFar, HasEnded, HasLived, HasRun, HasState, HoldAState, IsFirstLife, IsFoundAgain, IsLeftBy, IsLife, IsTold, KeepFails, KeepModel, KeepsOn, StopsABegin, StopsARun, StopsAnOpening, StopsAt};
+ghost use Rattle.ic_keeping.specs.Life.{AreEmpty, EndsBetween, HasAsFar, HasEnded, HasLived, HasRun, HasState, HoldAState, IsFirstLife, IsFoundAgain, IsLeftBy, IsNotBegun, IsRead, IsLife, IsTold, KeepFails, KeepModel, KeepsOn, StopsABegin, StopsARun, StopsAnOpening, StopsAt};
 ghost use Rattle.ic_keeping.specs.Way.{AreAlike, AreSums, ComesPastLimits, IsAnswer, IsAsFar, IsBegun, IsFormFrom, IsFormOf, IsKeptAfter, IsNoLess, IsOnWay, IsReachedFrom, IsStateOf};
 
 use crate::beginning::ResumeFault;
@@ -182,6 +182,26 @@ pub fn a_first_life_is_one_of_them<D: Disk>(first: &D, second: &D)
     let _ = first;
     let _ = second;
     ic_state::laws::each_state_has_its_own_bytes();
+}
+
+/// Where a reduction isn't begun in two files, for want of memory or at a limit, these are handed back as they were: if both were
+/// empty, both are. Files that hold something were only read. Nothing else keeps it from being begun but a call that fails.
+pub fn what_is_not_begun_is_as_it_was<D: Disk>(first: &D, second: &D)
+    ensures same { (fault : ResumeFault D) → IsNotBegun D.Disk first.now second.now fault
+        → (fault.cause ≡ keeping.Memory) ⊎ (fault.cause ≡ keeping.Limit)
+        → (fault.first ≡ first.now) × (fault.second ≡ second.now) }
+    ensures empty { (fault : ResumeFault D) → IsNotBegun D.Disk first.now second.now fault
+        → (fault.cause ≡ keeping.Memory) ⊎ (fault.cause ≡ keeping.Limit)
+        → AreEmpty D.Disk first.now second.now → AreEmpty D.Disk fault.first fault.second }
+    ensures read { (fault : ResumeFault D) → IsNotBegun D.Disk first.now second.now fault
+        → fault.cause ≡ keeping.NotEmpty
+        → IsRead D.Disk first.now fault.first × IsRead D.Disk second.now fault.second }
+    ensures others { (fault : ResumeFault D) → IsNotBegun D.Disk first.now second.now fault
+        → (fault.cause ≡ keeping.NotEmpty) ⊎ (fault.cause ≡ keeping.Device)
+        ⊎ (fault.cause ≡ keeping.Limit) ⊎ (fault.cause ≡ keeping.Memory) }
+{
+    let _ = first;
+    let _ = second;
 }
 
 /// What a state of a reduction says: its text is read as a system with the same rules, and its interactions lead there. One that has begun is
@@ -414,6 +434,11 @@ pub fn what_a_run_by_rounds_tells()
         × AreCounts (length s.rules.rules) (rules_in s.rules.rules rounds s.config ++ since)
         run.state.by_rule.items
         × (length since ≤ length (iterate s.rules.rules rounds s.config).equations) }
+    // No fewer are told than were made before, unless no pair has fired at all.
+    ensures no_fewer { (s : SystemParts) (bounds : Bounds) (most : ℕ) (asked : Asked) (k : Kept)
+        (run : Ended) (made rounds : ℕ) → HasRun s bounds most asked k run → k.rounds ≡ Some made
+        → run.rounds ≡ Some rounds
+        → (made ≤ rounds) ⊎ ((rounds ≡ 0) × (run.state.interactions ≡ 0)) }
     ensures any_order { (s : SystemParts) (bounds : Bounds) (most : ℕ) (asked : Asked) (k : Kept)
         (run : Ended) → HasRun s bounds most asked k run → k.rounds ≡ None → run.rounds ≡ None }
     ensures steps { (s : SystemParts) (bounds : Bounds) (most : ℕ) (asked : Asked) (k : Kept)
@@ -421,3 +446,24 @@ pub fn what_a_run_by_rounds_tells()
         → run.end ≡ Steps → (rounds : ℕ) × (run.rounds ≡ Some rounds) × (most ≤ rounds)
         × CanInteract s.rules.rules has.answer.answer }
 {}
+
+/// As a life ends between two rounds, or in any order, a state is kept that goes as far as what is told: so it is wherever it ends
+/// quiet, or as all rounds are made, of which some were to be made.
+pub fn a_life_keeps_what_it_tells<D: Disk>(first: &D, second: &D)
+    ensures rounds { (s : SystemParts) (bounds : Bounds) (most : ℕ) (asked : Asked) (from : Kept)
+        (run : Ended) (n : Keeper D) (made : ℕ)
+        → (has : HasEnded D.Disk s bounds most asked from first.now second.now run n)
+        → has.found.rounds ≡ Some made → made < most → (run.end ≡ Quiet) ⊎ (run.end ≡ Steps)
+        → (run.state.rounds ≡ run.rounds) × HasAsFar D.Disk s (kept_by run.state) n }
+    ensures any_order { (s : SystemParts) (bounds : Bounds) (most : ℕ) (asked : Asked) (from : Kept)
+        (run : Ended) (n : Keeper D)
+        → (has : HasEnded D.Disk s bounds most asked from first.now second.now run n)
+        → has.found.rounds ≡ None → HasAsFar D.Disk s (kept_by run.state) n }
+    // Of a run by itself the same is known: at these ends it has ended between two rounds.
+    ensures between { (s : SystemParts) (bounds : Bounds) (most : ℕ) (asked : Asked) (k : Kept)
+        (run : Ended) (made : ℕ) → HasRun s bounds most asked k run → k.rounds ≡ Some made
+        → made < most → (run.end ≡ Quiet) ⊎ (run.end ≡ Steps) → EndsBetween k run }
+{
+    let _ = first;
+    let _ = second;
+}

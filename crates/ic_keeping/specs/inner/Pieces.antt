@@ -99,6 +99,7 @@ pub record IsPieceByRounds (s : SystemParts) (most over : ℕ) (answer : Configu
   pub rounds : ℕ
   pub told : piece.rounds ≡ Some rounds
   pub within : rounds ≤ max most over
+  pub later : over ≤ rounds
   pub net : (piece.end ≡ Quiet) ⊎ (piece.end ≡ Steps)
       → OneNet answer (iterate s.rules.rules rounds s.config)
   pub needed : (n : ℕ) → n < rounds → ¬ IsQuiet s.rules.rules (iterate s.rules.rules n s.config)

@@ -27,6 +27,9 @@ returns-clause-within c = λ s bounds most asked k run made has by.
     let fired = told.3.fired in
     (told.0, told.1, fired.since, fired.all, fired.counts, fired.few)
 
+pub returns-clause-no_fewer : goal.returns-clause-no_fewer
+returns-clause-no_fewer c = λ s bounds most asked k run made rounds has by told. has.no_fewer made rounds by told
+
 pub returns-clause-any_order : goal.returns-clause-any_order
 returns-clause-any_order c = λ s bounds most asked k run has any. has.any_order any
 

@@ -8,7 +8,7 @@ use Rattle.ic_keeping.specs.inner.Pieces.{ComesTogether}
 use Rattle.ic_keeping.specs.Life.{IsStartOf}
 use Rattle.ic_keeping.specs.Way.{AreAlike, IsReachedFrom}
 use Rattle.ic_keeping.proofs.ByRounds.{alike_of, by_order}
-use Rattle.ic_keeping.proofs.GoingLemmas.{HasKept, IsEndOf, as_far_as, begins, end_by_rounds, goes_on_so, keeps_on, run_is, stops_for_memory, stops_in_keep, stops_in_piece, way_of, way_refused}
+use Rattle.ic_keeping.proofs.GoingLemmas.{HasKept, IsEndOf, as_far_as, begins, end_by_rounds, goes_on_so, keeps_on, no_fewer_told, run_is, stops_for_memory, stops_in_keep, stops_in_piece, way_of, way_refused}
 use Rattle.ic_keeping.proofs.Refusing.{fails_on, ready_on, tells_of_limit, tells_of_memory, tells_of_piece, tells_of_run}
 use Rattle.ic_keeping.proofs.WayLemmas.{past_count}
 use Rattle.ic_keeping.proofs.going.Run.go_on.Goals as goal
@@ -45,7 +45,7 @@ end_here g c s told is steps all between untold some =
     (λ any.
     let now = c.loop-pieces.invariant.any any in
     let answer = run.answer s c.args.self.now.bounds is.rules from.is now.0 (omega (arith, c.bounds_after-bounds.ensures.left)) (λ at_steps. steps (run.piece.any now.0) at_steps now.0) in
-    record { within = c.args.self.now.bounds; bounded = λ same. refl; answer = answer; onward = onward; by_rounds = λ made by. absurd (cc (sym any ∙ by)); any_order = λ same. untold (run.piece.untold now.0); between = λ made by. absurd (cc (sym any ∙ by)) })
+    record { within = c.args.self.now.bounds; bounded = λ same. refl; answer = answer; onward = onward; by_rounds = λ made by. absurd (cc (sym any ∙ by)); no_fewer = λ made n by here. absurd (cc (sym any ∙ by)); any_order = λ same. untold (run.piece.untold now.0); between = λ made by. absurd (cc (sym any ∙ by)) })
     (λ m by.
     let now = c.loop-pieces.invariant.rounds m by in
     let answer = run.by_rounds s now.0 is.rules from.is now.1 in
@@ -60,6 +60,9 @@ end_here g c s told is steps all between untold some =
       onward = onward;
       by_rounds = λ made same. end_by_rounds s c.args.self.now.rounds (max c.args.self.now.rounds made) c.in_ok-run.run'.end answer.1.answer c.run_piece.new.state.interactions c.run_piece.new.state.by_rule.items told c.in_ok-run.run'.rounds
           piece.rounds piece.told (omega (arith, piece.within, c.loop-pieces.invariant.few s is made now.0 same now.1)) between some piece.net piece.needed reached piece.fired;
+      no_fewer = λ made n same here.
+          let one : m ≡ made = cc (sym by ∙ same) in
+          no_fewer_told told made piece.rounds n c.run_piece.new.state.interactions (some piece.rounds piece.told) (omega (arith, one, now.2, piece.later)) here;
       any_order = λ none. absurd (cc (sym by ∙ none));
       between = λ made same low either.
           piece.between (c.loop-pieces.invariant.below made now.0 same now.1 low) either ∙ sym (between either ∙ piece.told);

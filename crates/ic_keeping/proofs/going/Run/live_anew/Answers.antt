@@ -1,4 +1,4 @@
-use Rattle.std.proofs.Common.{◌≡◌, ◌∙◌, inr, true, false, Bool, subst, sym}
+use Rattle.std.proofs.Common.{◌≡◌, ◌∙◌, inl, inr, ⊎_elim, true, false, Bool, Err, ap, subst, sym}
 use Rattle.std.proofs.lemmas.Result.{IfErr-weaker, IfOk-weaker}
 use Rattle.std.specs.Prelude.{IsTrue}
 use Rattle.ic_frames.specs.declared.faults.KeepFault.TheVariants.{Broken}
@@ -30,6 +30,15 @@ life_here : (g : _) (c : After-made g) → KeepModel g.D.Disk c.args.first c.arg
 life_here g c model s is n way =
     let begun = c.in-Ok.ensures in
     begins_life g.D.Disk s c.args.start c.begin.new.first c.begin.new.second c.made.result n is begun.sound (model_here g c model) (begun.newest model.0) (begun.shut model.1) (opened_here g c model) way
+
+pub returns-in-Err-clause-stopped : goal.returns-in-Err-clause-stopped
+returns-in-Err-clause-stopped g c s is model =
+    let begun = c.in-Err.ensures in
+    inl (record {
+      stops = begun.refused;
+      untouched = λ why. begun.untouched (⊎_elim (λ memory. inr (ap Err memory)) (λ limit. inl (ap Err limit)) why);
+      spared = λ held. (begun.spares_first model.0 (ap Err held), begun.spares_second model.1 (ap Err held));
+    })
 
 pub returns-in-Ok-clause-answer : goal.returns-in-Ok-clause-answer
 returns-in-Ok-clause-answer g c s is = IfOk-weaker c.live_on.result _ _ (λ lived ends. ends.has_run s is) c.live_on.ensures.ended

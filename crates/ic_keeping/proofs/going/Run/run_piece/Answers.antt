@@ -337,6 +337,7 @@ returns-clause-by_rounds g c s over rules is before =
         rounds = over + c.in_ok-reduced.made;
         told = piece.rounds ∙ over_here g last over before;
         within = omega (arith, more.within);
+        later = omega arith;
         net = λ either. subst (λ (d : Configuration). OneNet d (iterate s.rules.rules (over + c.in_ok-reduced.made) s.config)) (sym answer.1)
             (net (subst (λ (e : End). (e ≡ Quiet) ⊎ (e ≡ Steps)) piece.end either));
         needed = needed;
