@@ -49,7 +49,7 @@ ARCHIVE = {
     "python": f"PYTHONPATH=python {PYTHON}",
     "typed": "here as they stand there",
     "where": """To have icserve everywhere, put bin/ on the path, or copy bin/ and share/ below /usr/local. Then `pip install ./python` gives
-Python its package; it needs no network.""",
+Python its package, without a network; Debian's pip asks for a virtual environment (`python3 -m venv`).""",
 }
 PACKAGE = {
     "at": "",
