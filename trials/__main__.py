@@ -1,6 +1,7 @@
-"""Runs the trials of the built program, as many side by side as there are processors: python3 trials [WORD..], where those are
-run in whose name one of the words stands. If a word stands in no name, none is run. Those of files `test_.._long` take many
-minutes, and are run only by a word that has `long`: python3 trials cluster_long. The word --without-program takes those that
+"""Runs the trials of the built program, as many side by side as there are processors: python3
+trials [WORD..], where those are run in whose name one of the words stands. If a word stands in
+no name, none is run. Those of files `test_.._long` take many minutes, and are run only by a
+word that has `long`: python3 trials cluster_long. The word --without-program takes those that
 need no built program, and --with-program the others. The last line is `N passed, M failed`."""
 
 import multiprocessing

@@ -4,6 +4,7 @@ beside what, and what a terminal is shown of a refused one."""
 import itertools
 import os
 import re
+import subprocess
 
 from known import TEXT_WORDS
 from program import IN_MEMORY, PROGRAM, TOP, Trial, run
@@ -170,3 +171,8 @@ class Words(Trial):
             text = run(*words).out.decode() if words[:1] == ["help"] and len(words) > 1 else help_of(*words)
             long = [line for line in text.split("\n") if len(line) > 100]
             self.equals(f"icserve {' '.join(words)} --help", "lines of more than 100 columns", [], long)
+        for script in sorted((TOP / "cluster").iterdir()):
+            if script.suffix:
+                continue
+            text = subprocess.run([script, "--help"], stdin=subprocess.DEVNULL, stdout=subprocess.PIPE, text=True).stdout
+            self.equals(f"{script.name} --help", "lines of more than 100 columns", [], [line for line in text.split("\n") if len(line) > 100])
