@@ -14,8 +14,8 @@ use crate::{
 use ic_args::table::{
     CHECKED, DISK, DRAWN, EVERY, EXPLAIN, FILE, GROUP, HELPERS, KEEP, LIMITS, LINES, MAX_ROUNDS,
     MAX_STEPS, NAMES, NODES, OVERWRITE, PAGE_BYTES, PLAIN, REPORT, RESUME, RICH, RULES_TOO,
-    RUNNERS, SCRIPT, SCRIPTS, STRICT, SUMS, TABLE, TAKEN, TOPIC, TRACED, TURNS, WAIT, WORKERS, Word,
-    table,
+    RUNNERS, SCRIPT, SCRIPTS, STRICT, SUMS, TABLE, TAKEN, TOPIC, TRACED, TURNS, WAIT, WORKERS,
+    Word, table,
 };
 use ic_args::{Place, ReportFormat, TextLimits, TraceFormat, Values, WordsFault, help_of};
 use ic_causes::{NotedInput, NotedOutput, Notes};
