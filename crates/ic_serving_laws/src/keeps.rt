@@ -53,9 +53,9 @@ pub fn a_run_makes_few_calls<D: Disk>(before: &Book<D>, after: &Book<D>)
 /// Where the page has room for all that a line asks for and for one entry more, answering the line makes
 /// at most six calls to the disk for each `every` of its rounds, halts or commands, and six at the end.
 pub fn a_line_makes_few_calls<D: Disk>(before: &Book<D>, after: &Book<D>)
-    ensures { (line : List ℕ) (a : Reading) (every : ℕ) → ReadsLine line a
-        → CallsFewFor line every before.now after.now
-        → weight_of (log_of before.now) + weigh (events (table_of before.now) a) < 65536
+    ensures { (limit : ℕ) (line : List ℕ) (a : Reading) (every : ℕ) → ReadsLine line a
+        → CallsFewFor limit line every before.now after.now
+        → weight_of (log_of before.now) + weigh (events (table_of before.now) a) < limit
         → D.clock (disk_of after.now) ≤ D.clock (disk_of before.now)
         + 6 * (length (events (table_of before.now) a) / every + 1) }
 {
