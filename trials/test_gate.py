@@ -78,6 +78,12 @@ class Gate(Trial):
             self.equals("./gate", f"whether it tells how long they took: {told}", True, [int(it.split()[0]) for it in told[:2]] >= [2, 1])
         self.holds(self.room / "calls", "ci\n")
 
+    def test_its_help_runs_nothing(self):
+        for words, status in ((["--help"], 0), (["all"], 2)):
+            ran = subprocess.run([self.room / "gate", *words], stdout=subprocess.PIPE, text=True, timeout=PATIENCE)
+            self.equals(f"./gate {' '.join(words)}", "its status, and how it begins", (status, "The gate: "), (ran.returncode, ran.stdout[:10]))
+            self.equals(f"./gate {' '.join(words)}", "whether anything ran", False, (self.room / "calls").exists())
+
     def test_what_has_failed_is_told_last(self):
         (self.room / "checks/layout.py").write_text(LAYOUT)
         lines = self.gate(1, FAILS="yes")
