@@ -88,6 +88,7 @@ impl Heap {
 
     /// Puts an agent, whose arguments are in these registers, into a free block: the one that was freed last, or one
     /// after the last.
+    #[inline(always)]
     pub fn put(&mut self, operands: &[u32], registers: &[Word]) -> u32
         requires arity { length operands.now ≡ self.old.arity }
         requires some { 1 ≤ self.old.arity }
@@ -133,6 +134,7 @@ impl Heap {
     }
 
     /// Takes the arguments of an agent out of its block, which is free then.
+    #[inline(always)]
     pub fn take(&mut self, block: u32, registers: &mut Vec<Word>)
         requires there { block < self.old.count }
         requires used { ¬ ((first_word self.old block).tag ≡ FREE) }
@@ -149,9 +151,7 @@ impl Heap {
     {
         let arity = self.arity as usize;
         let at = block as usize * arity;
-        for word in &self.words[at..at + arity] {
-            registers.push_reserved(*word);
-        }
+        push(registers, &self.words[at..at + arity]);
         self.words[at] = Word {
             tag: FREE,
             index: self.free,
@@ -160,8 +160,35 @@ impl Heap {
     }
 }
 
-/// Writes the words of registers, from a place on.
+/// Writes the words of registers, from a place on. Up to three are written without a loop.
+#[inline(always)]
 fn write(words: &mut Vec<Word>, at: usize, operands: &[u32], registers: &[Word])
+    requires there { at + length operands.now ≤ vec_len words.old }
+    requires filled { AllByRecursion (λ k. k < length registers.now) operands.now }
+    ensures written { words.new.items ≡ take at words.old.items
+        ++ (map (register registers.now) operands.now
+        ++ drop (at + length operands.now) words.old.items) }
+    ensures capacity { vec_capacity words.new ≡ vec_capacity words.old }
+{
+    match operands {
+        [only] => words[at] = registers[*only as usize],
+        [first, second] => {
+            words[at] = registers[*first as usize];
+            words[at + 1] = registers[*second as usize];
+        }
+        [first, second, third] => {
+            words[at] = registers[*first as usize];
+            words[at + 1] = registers[*second as usize];
+            words[at + 2] = registers[*third as usize];
+        }
+        _ => write_each(words, at, operands, registers),
+    }
+}
+
+/// The same for any number of words.
+#[cold]
+#[inline(never)]
+fn write_each(words: &mut Vec<Word>, at: usize, operands: &[u32], registers: &[Word])
     requires there { at + length operands.now ≤ vec_len words.old }
     requires filled { AllByRecursion (λ k. k < length registers.now) operands.now }
     ensures written { words.new.items ≡ take at words.old.items
@@ -177,6 +204,8 @@ fn write(words: &mut Vec<Word>, at: usize, operands: &[u32], registers: &[Word])
 }
 
 /// Appends the words of registers, for which there is memory.
+#[cold]
+#[inline(never)]
 fn append(words: &mut Vec<Word>, operands: &[u32], registers: &[Word])
     requires room { vec_len words.old + length operands.now ≤ vec_capacity words.old }
     requires filled { AllByRecursion (λ k. k < length registers.now) operands.now }
@@ -186,5 +215,40 @@ fn append(words: &mut Vec<Word>, operands: &[u32], registers: &[Word])
 {
     for operand in operands {
         words.push_reserved(registers[*operand as usize]);
+    }
+}
+
+/// Puts words at the end, for which there is memory. Up to three are put without a loop.
+#[inline(always)]
+fn push(words: &mut Vec<Word>, more: &[Word])
+    requires room { vec_len words.old + length more.now ≤ vec_capacity words.old }
+    ensures pushed { words.new.items ≡ words.old.items ++ more.now }
+    ensures capacity { vec_capacity words.new ≡ vec_capacity words.old }
+{
+    match more {
+        [only] => words.push_reserved(*only),
+        [first, second] => {
+            words.push_reserved(*first);
+            words.push_reserved(*second);
+        }
+        [first, second, third] => {
+            words.push_reserved(*first);
+            words.push_reserved(*second);
+            words.push_reserved(*third);
+        }
+        _ => push_each(words, more),
+    }
+}
+
+/// The same for any number of words.
+#[cold]
+#[inline(never)]
+fn push_each(words: &mut Vec<Word>, more: &[Word])
+    requires room { vec_len words.old + length more.now ≤ vec_capacity words.old }
+    ensures pushed { words.new.items ≡ words.old.items ++ more.now }
+    ensures capacity { vec_capacity words.new ≡ vec_capacity words.old }
+{
+    for word in more {
+        words.push_reserved(*word);
     }
 }

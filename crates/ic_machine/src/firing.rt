@@ -57,6 +57,7 @@ pub(crate) fn reserve_each(heaps: &mut Vec<Heap>, more: usize) -> bool
 }
 
 /// Takes the arguments of an agent out of its block.
+#[inline(always)]
 pub(crate) fn take(heaps: &mut Vec<Heap>, agent: Word, registers: &mut Vec<Word>)
     requires some { 1 ≤ agent.tag }
     requires symbol { agent.tag ≤ length heaps.old.items }
@@ -78,6 +79,7 @@ pub(crate) fn take(heaps: &mut Vec<Heap>, agent: Word, registers: &mut Vec<Word>
 }
 
 /// Opens so many names.
+#[inline(always)]
 pub(crate) fn open_names(names: &mut Names, count: u32, registers: &mut Vec<Word>)
     requires room { length names.old.entries + count ≤ names.old.capacity }
     requires few { length names.old.entries + count < 2 ^ 32 }
@@ -109,6 +111,7 @@ pub(crate) fn push_given(registers: &mut Vec<Word>, given: u32)
 }
 
 /// Makes agents.
+#[inline(always)]
 pub(crate) fn make_agents(heaps: &mut Vec<Heap>, makes: &[Make], registers: &mut Vec<Word>)
     requires made { AreMade (arities_of heaps.old.items) (length registers.old.items)
         (map made_of makes.now) }

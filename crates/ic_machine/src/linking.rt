@@ -49,6 +49,7 @@ pub(crate) fn link_each(
 }
 
 /// The same where it is known whether they are stamped.
+#[inline(always)]
 pub(crate) fn link_all<const STAMPED: bool>(
     names: &mut Names,
     pending: &mut Queue,
@@ -85,6 +86,7 @@ pub(crate) fn link_all<const STAMPED: bool>(
 /// Links an equation: if a word waits for a side that is a name, it takes the place of that, as long as one does. Then one
 /// side waits for the other, if that is a name. Two sides that are no names are pending. The greatest stamp on the way is that of
 /// what waits, or is pending.
+#[inline(always)]
 pub(crate) fn link<const STAMPED: bool>(
     names: &mut Names,
     pending: &mut Queue,
@@ -126,6 +128,7 @@ pub(crate) fn link<const STAMPED: bool>(
 }
 
 /// Takes what waits for a word, if that is a name for which a word waits. The name is gone then.
+#[inline(always)]
 fn taken(names: &mut Names, word: Word) -> Option<Word>
     requires room { word.tag ≡ NAME → 1 ≤ sum_by (room word) (names_pieces 0 names.old.entries) }
     ensures taken { IfSome result (IsTaken word names.old.entries names.new.entries) }
@@ -146,6 +149,7 @@ fn taken(names: &mut Names, word: Word) -> Option<Word>
 }
 
 /// Lets one side of an equation of this stamp wait for the other, if that is a name. Nothing waits for either of them.
+#[inline(always)]
 fn settle<const STAMPED: bool>(
     names: &mut Names,
     pending: &mut Queue,

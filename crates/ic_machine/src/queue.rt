@@ -104,7 +104,7 @@ impl Queue {
         ensures len { length self.old.items ≡ length self.new.items + 1 }
         ensures capacity { self.new.capacity ≡ self.old.capacity }
     {
-        self.equations.pop();
+        self.equations.take_last();
     }
 
     /// Takes the first one out.

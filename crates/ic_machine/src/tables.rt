@@ -73,6 +73,8 @@ impl Tables {
     }
 
     /// Takes all memory that a plan may need with so many arguments, before anything is changed.
+    #[cold]
+    #[inline(never)]
     pub(crate) fn reserve(&mut self, plan: &Plan, arguments: usize) -> Result<(), MachineFault>
         requires few { length self.old.names.entries < 2 ^ 32 }
         requires arguments { arguments < 2 ^ 33 }
@@ -104,6 +106,8 @@ impl Tables {
 
     /// Takes memory for the plans to come, after one that makes so many names and agents, and so many links. Answers how much of
     /// each kind they may make: nothing where it is refused, there are no numbers for so much, or there are many symbols.
+    #[cold]
+    #[inline(never)]
     fn take_spare(&mut self, size: usize, links: usize) -> usize
         requires { length self.old.names.entries < 2 ^ 32 }
         ensures names { self.new.names.entries ≡ self.old.names.entries }
@@ -167,6 +171,7 @@ impl Tables {
     }
 
     /// Makes what a plan makes of the arguments in the registers.
+    #[inline(always)]
     pub(crate) fn make<const STAMPED: bool>(&mut self, plan: &Plan)
         requires ready { IsReady (planned plan.now) self.old }
         requires memory { HasMemory (planned plan.now) 0 self.old }

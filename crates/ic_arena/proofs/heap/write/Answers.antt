@@ -1,23 +1,57 @@
-use Rattle.std.proofs.Common.{◌≡◌, ◌+◌, ◌≤◌, ◌++◌, ℕ, map, length, take, drop, sym, subst, arith, slice_set, slice_index_or}
+use Rattle.std.proofs.Common.{◌≡◌, ◌+◌, ◌<◌, ◌≤◌, ◌++◌, ℕ, List, map, length, take, drop, ap, sym, ◌∙◌, subst, arith, slice_set, slice_index_or}
+use Rattle.std.proofs.lemmas.List.{take-append-drop, take_all}
+use Rattle.ic_arena.specs.declared.word.Word.{Word}
 use Rattle.ic_arena.specs.Word.{name_word}
 use Rattle.ic_arena.specs.Tables.{register}
 use Rattle.ic_arena.proofs.HeapPieces.{write_more}
 use Rattle.ic_arena.proofs.heap.write.Goals as goal
 
-pub loop-operand-preserved : goal.loop-operand-preserved
-loop-operand-preserved c =
+-- the words of so many registers, the first ones, are written
+abbrev Writes : (old rs : List Word) (ops : List ℕ) (at n : ℕ) (ws : List Word) → Type 0
+Writes old rs ops at n ws = ws ≡ take at old ++ (map (register rs) (take n ops) ++ drop (at + n) old)
+
+writes_one : (old rs : List Word) (ops : List ℕ) (at : ℕ) → 0 < length ops → at + length ops ≤ length old
+    → Writes old rs ops at 1 (slice_set old at (register rs (slice_index_or ops 0 0)))
+writes_one old rs ops at some room =
+    let here : at + 0 ≡ at = omega arith in
+    let none : Writes old rs ops at 0 old = sym (ap (λ (k : ℕ). take at old ++ drop k old) here ∙ take-append-drop at old) in
+    subst (λ (k : ℕ). Writes old rs ops at 1 (slice_set old k (register rs (slice_index_or ops 0 0)))) here
+    (write_more old rs ops at 0 old (name_word 0) some room none)
+
+writes_all : (old rs : List Word) (ops : List ℕ) (at n : ℕ) (ws : List Word) → length ops ≡ n → Writes old rs ops at n ws
+    → ws ≡ take at old ++ (map (register rs) ops ++ drop (at + length ops) old)
+writes_all old rs ops at n ws count is =
+    let same : take n ops ≡ ops = take_all n ops (omega arith) in
+    is ∙ (ap (λ (l : List ℕ). take at old ++ (map (register rs) l ++ drop (at + n) old)) same
+    ∙ ap (λ (k : ℕ). take at old ++ (map (register rs) ops ++ drop (at + k) old)) (sym count))
+
+pub returns-in-len1-clause-written : goal.returns-in-len1-clause-written
+returns-in-len1-clause-written c =
     let old = c.args.words.now.items in
     let rs = c.args.registers.now in
     let ops = c.args.operands.now in
-    let i : ℕ = c.loop-operand.operand-index in
     let room : c.args.at + length ops ≤ length old = omega (arith, c.args.words.now.ok, c.requires.there) in
-    record {
-      place = omega arith;
-      written = subst (λ (x : ℕ). slice_set c.loop-operand.words.items x (register rs (slice_index_or ops i 0))
-          ≡ take c.args.at old ++ (map (register rs) (take (i + 1) ops) ++ drop (c.args.at + (i + 1)) old))
-          (sym c.loop-operand.invariant.place)
-          (write_more old rs ops c.args.at i c.loop-operand.words.items (name_word 0) c.loop-operand-test.true room
-          c.loop-operand.invariant.written);
-      len = c.loop-operand.invariant.len;
-      capacity = c.loop-operand.invariant.capacity;
-    }
+    let count : length ops ≡ 1 = omega (arith, c.in-len1.len_at_least, c.in-len1.len_below) in
+    writes_all old rs ops c.args.at 1 _ count (writes_one old rs ops c.args.at (omega arith) room)
+
+pub returns-in-len2-clause-written : goal.returns-in-len2-clause-written
+returns-in-len2-clause-written c =
+    let old = c.args.words.now.items in
+    let rs = c.args.registers.now in
+    let ops = c.args.operands.now in
+    let room : c.args.at + length ops ≤ length old = omega (arith, c.args.words.now.ok, c.requires.there) in
+    let count : length ops ≡ 2 = omega (arith, c.in-len2.len_at_least, c.in-len2.len_below) in
+    writes_all old rs ops c.args.at 2 _ count
+    (write_more old rs ops c.args.at 1 _ (name_word 0) (omega arith) room (writes_one old rs ops c.args.at (omega arith) room))
+
+pub returns-in-len3-clause-written : goal.returns-in-len3-clause-written
+returns-in-len3-clause-written c =
+    let old = c.args.words.now.items in
+    let rs = c.args.registers.now in
+    let ops = c.args.operands.now in
+    let room : c.args.at + length ops ≤ length old = omega (arith, c.args.words.now.ok, c.requires.there) in
+    let count : length ops ≡ 3 = omega (arith, c.in-len3.len_at_least, c.in-len3.len_below) in
+    writes_all old rs ops c.args.at 3 _ count
+    (write_more old rs ops c.args.at 2 _ (name_word 0) (omega arith) room
+    (write_more old rs ops c.args.at 1 _ (name_word 0) (omega arith) room
+    (writes_one old rs ops c.args.at (omega arith) room)))

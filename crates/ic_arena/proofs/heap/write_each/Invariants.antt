@@ -1,6 +1,6 @@
 use Rattle.std.proofs.Common.{◌≡◌, ◌+◌, ◌++◌, map, take, drop, vec_capacity, vec_len}
 use Rattle.ic_arena.specs.Tables.{register}
-use Rattle.ic_arena.proofs.heap.write.Given as goal
+use Rattle.ic_arena.proofs.heap.write_each.Given as goal
 
 abbrev pub invariant-loop-operand : goal.invariant-loop-operand
 invariant-loop-operand l = record {
