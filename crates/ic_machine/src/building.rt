@@ -40,12 +40,13 @@ impl Model for Builder {
 }
 
 impl Builder {
-    /// So many given names and so many others, for which nothing waits.
+    /// So many given names and so many others, for which nothing waits. It takes the memory for the registers of so many agents more.
     pub fn new(
         alloc: Global,
         program: &Program,
         given: u32,
         names: u32,
+        agents: usize,
     ) -> Result<Builder, AllocError>
         requires symbols { length program.now.arities < GIVEN }
         requires few { length program.now.arities + given + names ≤ u32.MAX }
@@ -56,7 +57,8 @@ impl Builder {
     {
         let mut tables = Tables::new(alloc, program.arities())?;
         tables.names.reserve(names as usize)?;
-        tables.registers.reserve(given as usize + names as usize)?;
+        let named = given as usize + names as usize;
+        tables.registers.reserve(named.saturating_add(agents))?;
         push_given(&mut tables.registers, given);
         open_names(&mut tables.names, names, &mut tables.registers);
         Ok(Builder { tables })

@@ -89,9 +89,10 @@ pub(crate) fn lay_out(
     let count = system.rules().symbols().len() as u32;
     let occurring = names_of(alloc, words)?;
     let all = occurring.as_slice();
+    let agents = words.len().saturating_sub(all.len());
     let (given, names, registers) = give_registers(alloc, all, count)?;
     drop(occurring);
-    let mut builder = Builder::new(alloc, program, given.len() as u32, names)?;
+    let mut builder = Builder::new(alloc, program, given.len() as u32, names, agents)?;
     let reads = registers.as_slice();
     let operands = lay(alloc, words, reads, &mut builder)?;
     let (interface, links) = split_operands(alloc, &operands, config.interface_len())?;
