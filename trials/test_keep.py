@@ -194,6 +194,18 @@ class Keep(Stops):
             again = run("reduce", "--resume", self.file, *words)
             self.equals(again.command, "milliseconds", figures(ended)["milliseconds"], figures(again)["milliseconds"])
 
+    def test_keeps_that_take_long_are_further_apart(self):
+        """What comes between two of them takes ten times as long as one, also where fewer seconds are asked for. One takes a second here,
+        so they come twelve seconds apart, but for the first and the last one. Who is slowed down by others may keep more often."""
+        given = "{A(B(x))><B(A(x))} <|A(x)=B(x)>"
+        slow = {**shimmed(), "SHIM_SYNC": "200000"}
+        began = time.monotonic()
+        ran = run("reduce", "--keep", self.file, "--seconds", 1, "--steps", 80_000_000, "--quiet-answer", given=given, env=slow)
+        took = time.monotonic() - began
+        often = max(seen(it, content)[1] for it, content in enumerate(self.contents(), 1))
+        told = f"whether it was kept {often} times in {took:.1f} seconds, and once in four at most"
+        self.equals(ran.command, told, True, 3 <= often <= 3 + took / 4)
+
     def test_a_stuck_pair_is_told(self):
         text = "{A(B(x))><B(x)} <r|A(r)=B(C),D=E(z)>"
         whole = run("reduce", "--workers", 1, given=text)

@@ -58,9 +58,9 @@ The commands:
   icserve inspect --disk F       tells what is kept, also while a reduction goes on
 
 A stop at any moment loses what was done since the last keep. Keeps come after about as many
-seconds as --seconds says, and 4194304 interactions at least, so later on a slow machine. The end
-is kept too, and --resume prints the answer again. --steps counts the interactions of all runs.
-One with --rounds N is kept between two rounds. It is resumed by rounds, at most N with --rounds N.
+seconds as --seconds says, or ten times as long as the last one took, and 4194304 interactions at
+least. The end is kept too, and --resume prints the answer again. --steps counts the interactions
+of all runs. One with --rounds is kept and resumed between two rounds, at most N with --rounds N.
 F and F.2 belong together: move or copy both, while neither is open, and give the name F.
 After a stop in the very first keep mostly nothing is kept: give the same --keep again.
 If one of them is lost or damaged, --resume with --from-one-file goes on with what the other one

@@ -623,6 +623,7 @@ impl<T: Threads + Sync, C: Clock + Sync, V: Watch> Run<'_, T, C, V> {
         let mut shared: u64 = 0;
         for pieces in 0..u64::MAX {
             let (before, rounds) = (state.interactions, state.rounds);
+            let begun = millis_of(self.clock);
             let bounds = self.bounds_after(before, pace);
             let run = self.run_piece(&rules, &mut state, bounds)?;
             if is_broken(rounds, state.rounds) {
@@ -637,7 +638,8 @@ impl<T: Threads + Sync, C: Clock + Sync, V: Watch> Run<'_, T, C, V> {
                 return Ok(ended);
             }
             kept_ended = now_ended;
-            pace = pace.after(run.millis);
+            let all = millis_of(self.clock).saturating_sub(begun);
+            pace = pace.after(run.millis, all.saturating_sub(run.millis));
         }
         Err(KeepingFault::Limit)
     }

@@ -1,6 +1,6 @@
 //! How many interactions are made before what was reached is kept.
 
-ghost use Rattle.std.specs.Prelude.{◌≡◌, ◌*◌, ◌/◌, ◌^◌, max, min};
+ghost use Rattle.std.specs.Prelude.{◌≡◌, ◌-◌, ◌*◌, ◌/◌, ◌^◌, max, min};
 
 use ic_in_place::Watch;
 use std::cell::Cell;
@@ -32,6 +32,9 @@ const MOST: u64 = 1 << 60;
 /// How many times as many as the one before it.
 const GROWTH: u64 = 64;
 
+/// How many times as long as the last keep a piece should go on at least.
+const BESIDE_KEEP: u64 = 10;
+
 impl Pace {
     /// A pace of pieces that go on for so many milliseconds.
     pub fn new(every: u64) -> Pace
@@ -44,16 +47,19 @@ impl Pace {
         }
     }
 
-    /// The pace after a piece that made interactions for so many milliseconds: as many as take the time of a piece, if the next ones
-    /// take as long as those. There are at most 64 times as many, and a quarter at least.
-    pub fn after(self, took: u64) -> Pace
+    /// The pace after a piece that made interactions for so many milliseconds, where all else took so many: planning the machine,
+    /// reading it back and keeping. The next piece makes as many as take the time of a piece, or ten times the time of all else, if
+    /// that is more, and if they take as long as those. There are at most 64 times as many, and a quarter at least.
+    pub fn after(self, took: u64, aside: u64) -> Pace
         ensures every { result.every ≡ self.every }
         ensures piece { result.piece ≡ max (2 ^ 22) (min (min (self.piece * 64) (2 ^ 60))
-            (max (self.piece / 4) (self.piece / max took 1 * self.every))) }
+            (max (self.piece / 4) (self.piece / max took 1
+            * max self.every (min (aside * 10) (2 ^ 64 - 1))))) }
     {
         let least = self.piece / 4;
         let most = self.piece.saturating_mul(GROWTH);
-        let even = (self.piece / took.max(1)).saturating_mul(self.every);
+        let lasts = aside.saturating_mul(BESIDE_KEEP).max(self.every);
+        let even = (self.piece / took.max(1)).saturating_mul(lasts);
         let piece = even.max(least).min(most).min(MOST).max(FIRST);
         Pace {
             every: self.every,
