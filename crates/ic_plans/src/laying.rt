@@ -1,6 +1,6 @@
 //! Terms whose agents are made in a builder, from the last word to the first.
 
-ghost use Rattle.std.specs.Prelude.{◌≡◌, ℕ, ◌+◌, ◌<◌, ◌≤◌, ◌∷◌, ◌++◌, [], List, Some, length, reverse, slice_get, take, drop, IfOk, OnOk};
+ghost use Rattle.std.specs.Prelude.{◌≡◌, ℕ, ◌+◌, ◌<◌, ◌≤◌, ◌∷◌, ◌++◌, [], List, Some, length, reverse, slice_get, take, drop, vec_len, IfOk, OnOk};
 ghost use Rattle.std.specs.List.{flat_map, AllByRecursion};
 ghost use Rattle.ic_flat.specs.Words.{arguments, forest, word_names, IsWhole};
 ghost use Rattle.ic_machine.specs.Building.{Builds};
@@ -11,8 +11,16 @@ ghost use Rattle.ic_plans.specs.inner.Laying.{AreLaid, CanLay, IsKnown};
 use crate::flattening::{names_in, register_at};
 use ic_flat::Word;
 use ic_machine::Builder;
-use smallvec::SmallVec;
 use std::alloc::{AllocError, Global};
+
+/// Turns the registers after so many first ones round.
+fn turn(operands: &mut Vec<u32>, first: usize)
+    requires { first ≤ vec_len operands.old }
+    ensures { operands.new.items
+        ≡ take first operands.old.items ++ reverse (drop first operands.old.items) }
+{
+    operands[first..].reverse();
+}
 
 /// Makes an agent of as many registers from the top of the stack, and answers its own register.
 fn make_agent(
@@ -39,12 +47,8 @@ fn make_agent(
         (length builder.new.registers ≡ length builder.old.registers + 1) }
 {
     let rest = operands.len() - arity;
-    let mut taken: SmallVec<u32, 4> = SmallVec::from_slice(
-        *operands.allocator(),
-        &operands[rest..],
-    )?;
-    taken.reverse();
-    let register = builder.make(symbol, &taken)?;
+    turn(operands, rest);
+    let register = builder.make(symbol, &operands[rest..])?;
     operands.truncate(rest);
     Ok(register)
 }
