@@ -9,9 +9,10 @@ ghost use Rattle.ic_flights.specs.declared.limits.TheConstants.{MAX_ROUNDS};
 use crate::flight::Flight;
 use crate::played::Played;
 use ic_flat::Flat;
+use ic_flat_rules::quiet;
 use std::alloc::{AllocError, Global};
 
-/// The round of a flight, from the configuration after it.
+/// The round of a flight, from the configuration after it. It looks whether that is quiet.
 pub fn made_for(alloc: Global, flight: &Flight, after: Flat) -> Result<Played, AllocError>
     requires counted { flight.now.rounds < MAX_ROUNDS }
     requires fitting { IsTrue (fits flight.now.rules.rules flight.now.config) }
@@ -22,7 +23,16 @@ pub fn made_for(alloc: Global, flight: &Flight, after: Flat) -> Result<Played, A
     let before = flight.shared_config().clone()?;
     let rules = flight.shared_rules().clone()?;
     let rounds = flight.rounds();
-    Ok(Played::new(alloc, flight.name(), rules, before, after, rounds)?)
+    let quiet = quiet(flight.rules(), &after);
+    Ok(Played::new(
+        alloc,
+        flight.name(),
+        rules,
+        before,
+        after,
+        rounds,
+        quiet,
+    )?)
 }
 
 /// The flight of the next round of a job at a place, after one that was made.

@@ -11,8 +11,9 @@ use std::marker::Model;
 use std::sync::Arc;
 
 /// A round that was made: a job's name and rules, its configuration before and after in flat form,
-/// and how many rounds it had made before. `after` is the round of `before`. The rules and `before`
-/// are shared with its flight, and `after` with the job that it lands in.
+/// and how many rounds it had made before. `after` is the round of `before`, and who made it looked
+/// whether it is quiet. The rules and `before` are shared with its flight, and `after` with the job
+/// that it lands in.
 #[derive(Debug, Drop)]
 pub struct Played {
     name: JobName,
@@ -20,10 +21,13 @@ pub struct Played {
     before: Arc<Flat>,
     after: Arc<Flat>,
     rounds: u64,
+    quiet: bool,
 }
 
 impl Model for Played {
+    ghost use Rattle.std.specs.Prelude.{◌≡◌};
     ghost use Rattle.std.specs.Arc.{arc_value};
+    ghost use Rattle.ic_round.specs.Quiet.{is_quiet};
     ghost use Rattle.ic_flights.specs.Played.{PlayedParts, IsPlayed, coded_played};
 
     ghost Value = { PlayedParts };
@@ -44,10 +48,11 @@ impl Model for Played {
       before = arc_value p.before;
       after = arc_value p.after;
       rounds = p.rounds;
-    }) };
+    }) × (p.quiet ≡ is_quiet (arc_value p.rules).rules (arc_value p.after)) };
 }
 
 impl Played {
+    ghost use Rattle.ic_round.specs.Quiet.{is_quiet};
     ghost use Rattle.ic_flights.specs.Played.{IsPlayed};
 
     pub(crate) fn new(
@@ -57,14 +62,16 @@ impl Played {
         before: Arc<Flat>,
         after: Flat,
         rounds: u64,
+        quiet: bool,
     ) -> Result<Played, AllocError>
-        requires { IsPlayed (record {
+        requires played { IsPlayed (record {
           name = name;
           rules = arc_value rules;
           before = arc_value before;
           after = after;
           rounds = rounds;
         }) }
+        requires quiet { quiet ≡ is_quiet (arc_value rules).rules after }
         ensures { IfOk result (λ played. played ≡ record {
           name = name;
           rules = arc_value rules;
@@ -79,6 +86,7 @@ impl Played {
             before,
             after: Arc::new(alloc, after)?,
             rounds,
+            quiet,
         })
     }
 
@@ -134,6 +142,14 @@ impl Played {
         ensures sound { IsPlayed self.now }
     {
         self.rounds
+    }
+
+    /// Whether the configuration after the round is quiet. It was looked at when the round was made.
+    pub fn is_quiet(&self) -> bool
+        ensures quiet { result ≡ is_quiet self.now.rules.rules self.now.after }
+        ensures sound { IsPlayed self.now }
+    {
+        self.quiet
     }
 
     /// The configuration after the round, moved out.

@@ -229,13 +229,15 @@ IsJob-of_parts name rules config s most named symbols set served valid over budg
     subst (λ (r : State). IsJob (record { name = name; rules = rules; config = config; rounds = 0; state = r; budget = most })) (sym e)
     (IsJob-begun name (record { rules = rules; config = config }) most named symbols set served valid over budget)
 
-pub IsJob-advanced : (j n : JobParts) (after : Configuration) (s : State) → IsJob j → j ≡ n → is_finished n.state ≡ false → IsTrue (can_move n) → after ≡ round n.rules.rules n.config
-    → s ≡ state_after j.rules after (j.rounds + 1) j.budget
+pub IsJob-advanced : (j n : JobParts) (after : Configuration) (s : State) (quiet : Bool) → IsJob j → j ≡ n → is_finished n.state ≡ false → IsTrue (can_move n)
+    → after ≡ round n.rules.rules n.config → quiet ≡ is_quiet n.rules.rules after → s ≡ cond quiet Done (cond (is_used_up j.budget (j.rounds + 1)) Spent Running)
     → IsJob (record { name = j.name; rules = j.rules; config = after; rounds = j.rounds + 1; state = s; budget = j.budget })
-IsJob-advanced j n after s is same unended can made e =
+IsJob-advanced j n after s quiet is same unended can made looked e =
     let able : can_move j ≡ true = ap can_move same ∙ can in
     let unfinished : is_finished j.state ≡ false = ap (λ (k : JobParts). is_finished k.state) same ∙ unended in
     let now : round j.rules.rules j.config ≡ after = ap (λ (k : JobParts). round k.rules.rules k.config) same ∙ sym made in
-    let to : state_after j.rules (round j.rules.rules j.config) (j.rounds + 1) j.budget ≡ s = ap (λ (c : Configuration). state_after j.rules c (j.rounds + 1) j.budget) now ∙ sym e in
+    let seen : quiet ≡ is_quiet j.rules.rules after = looked ∙ ap (λ (k : JobParts). is_quiet k.rules.rules after) (sym same) in
+    let told : s ≡ state_after j.rules after (j.rounds + 1) j.budget = e ∙ ap (λ (q : Bool). cond q Done (cond (is_used_up j.budget (j.rounds + 1)) Spent Running)) seen in
+    let to : state_after j.rules (round j.rules.rules j.config) (j.rounds + 1) j.budget ≡ s = ap (λ (c : Configuration). state_after j.rules c (j.rounds + 1) j.budget) now ∙ sym told in
     subst (λ (p : Configuration × State). IsJob (record { name = j.name; rules = j.rules; config = p.0; rounds = j.rounds + 1; state = p.1; budget = j.budget }))
     (λ i. (now i, to i)) (IsJob-moved j is unfinished able)

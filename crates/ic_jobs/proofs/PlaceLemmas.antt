@@ -9,6 +9,7 @@ use Rattle.ic_term.specs.lemmas.ConfigurationEq.{configuration_eq-Decides}
 use Rattle.ic_rules.specs.RuleSet.{Rules, rules_eq}
 use Rattle.ic_rules.specs.lemmas.RuleLaws.{rules_eq-Decides}
 use Rattle.ic_rules.specs.System.{SystemParts}
+use Rattle.ic_round.specs.Quiet.{is_quiet}
 use Rattle.ic_round.specs.Rounds.{fits, round}
 use Rattle.ic_flights.specs.Flight.{FlightParts, is_blocked}
 use Rattle.ic_flights.specs.Played.{PlayedParts, IsPlayed}
@@ -380,6 +381,13 @@ pub round_kept : (p : PlayedParts) (j : JobParts) → IsPlayed p → Agrees j p.
 round_kept p j is same =
     let rules = same.same_rules in let config = same.same_config in
     is.made ∙ sym (λ i. round (rules i).rules (config i))
+
+-- and is quiet after it where it was seen to be
+pub quiet_kept : (p : PlayedParts) (j d : JobParts) (after : Configuration) → Agrees j p.rules p.before p.rounds → d ≡ j → after ≡ p.after
+    → is_quiet p.rules.rules p.after ≡ is_quiet d.rules.rules after
+quiet_kept p j d after agrees same is =
+    let rules = agrees.same_rules in
+    (λ i. is_quiet (sym rules i).rules p.after) ∙ (λ i. is_quiet (sym same i).rules.rules (sym is i))
 
 -- The awaited job, at its place, and what was read there.
 pub record AwaitedAt (name : List ℕ) (t : List JobParts) (i : ℕ) (d : JobParts) (rules : Rules) (config : Configuration) (rounds : ℕ) : Type 0 where

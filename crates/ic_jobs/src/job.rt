@@ -1,8 +1,10 @@
 //! A job of the table.
 
-ghost use Rattle.std.specs.Prelude.{◌≡◌, IfOk};
+ghost use Rattle.std.specs.Prelude.{◌≡◌, IfOk, if◌then◌else◌};
 ghost use Rattle.std.specs.Arc.{arc_value};
-ghost use Rattle.ic_jobs.specs.Job.{open_state, state_after};
+ghost use Rattle.ic_jobs.specs.declared.state.State.TheVariants.{Running, Done, Spent};
+ghost use Rattle.ic_jobs.specs.Budget.{is_used_up};
+ghost use Rattle.ic_jobs.specs.Job.{open_state};
 
 use crate::budget::{Budget, is_used_up, is_within};
 use crate::shown::ShownJob;
@@ -61,6 +63,7 @@ impl Job {
     ghost use Rattle.std.specs.Prelude.{◌↔◌, ◌<◌, IsTrue, IsSome, IfSome, None, false, length};
     ghost use Rattle.ic_term.specs.Symbol.{is_over};
     ghost use Rattle.ic_rules.specs.RuleSet.{AreServed};
+    ghost use Rattle.ic_round.specs.Quiet.{is_quiet};
     ghost use Rattle.ic_round.specs.Rounds.{round};
     ghost use Rattle.ic_jobs.specs.inner.States.{is_finished};
     ghost use Rattle.ic_jobs.specs.Job.{IsJob, begun, system_of, can_move, moved, in_state};
@@ -237,15 +240,17 @@ impl Job {
         self.state = state;
     }
 
-    /// Puts the configuration after a round of a job that is neither done nor spent.
-    pub(crate) fn advance(&mut self, after: Arc<Flat>)
+    /// Puts the configuration after a round of a job that is neither done nor spent, where it is known
+    /// whether that is quiet.
+    pub(crate) fn advance(&mut self, after: Arc<Flat>, quiet: bool)
         requires unfinished { is_finished self.old.state ≡ false }
         requires can { IsTrue (can_move self.old) }
         requires round { arc_value after ≡ round self.old.rules.rules self.old.config }
+        requires quiet { quiet ≡ is_quiet self.old.rules.rules (arc_value after) }
         ensures { self.new ≡ moved self.old }
     {
         self.rounds += 1;
-        self.state = state_after(self.rules.rules(), &after, self.rounds, &self.budget);
+        self.state = state_after(quiet, self.rounds, &self.budget);
         self.config = after;
     }
 
@@ -328,10 +333,11 @@ fn open_state(rules: &RuleSet, config: &Flat) -> State
 }
 
 /// The state of a job after a round: quiet comes before the budget.
-fn state_after(rules: &RuleSet, config: &Flat, rounds: u64, budget: &Option<Budget>) -> State
-    ensures { result ≡ state_after rules.now config.now rounds budget.now }
+fn state_after(quiet: bool, rounds: u64, budget: &Option<Budget>) -> State
+    ensures { result ≡ (if quiet then Done
+        else (if is_used_up budget.now rounds then Spent else Running)) }
 {
-    if quiet(rules, config) {
+    if quiet {
         State::Done
     } else if is_used_up(budget, rounds) {
         State::Spent

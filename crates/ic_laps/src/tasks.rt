@@ -3,7 +3,6 @@
 use crate::shares::Shares;
 use crossbeam_channel::{Receiver, Sender};
 use ic_flat_round::Workspace;
-use ic_flat_rules::quiet;
 use ic_flights::{Flight, Played, next_flight};
 use ic_pool::play_in;
 use std::alloc::{AllocError, Global};
@@ -74,8 +73,9 @@ fn make_each(
         };
         flight = next_flight(flight.place(), &played)?;
         shares.keep(flight.shared_config())?;
+        let quiet = played.is_quiet();
         made.push(played)?;
-        if quiet(flight.rules(), flight.config()) {
+        if quiet {
             return Ok(None);
         }
         words = words.saturating_sub(flight.config().words().len());

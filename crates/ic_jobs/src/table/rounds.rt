@@ -58,7 +58,9 @@ impl Table {
         ) else {
             return Landed::Stale;
         };
-        self.jobs[place].advance(played.into_after());
+        let quiet = played.is_quiet();
+        let after = played.into_after();
+        self.jobs[place].advance(after, quiet);
         self.kept_list = None;
         Landed::Moved
     }
@@ -72,8 +74,9 @@ impl Table {
         let Some(place) = place_of(&self.jobs, played.name()) else {
             return;
         };
+        let quiet = played.is_quiet();
         let after = played.into_after();
-        self.jobs[place].advance(after);
+        self.jobs[place].advance(after, quiet);
         self.kept_list = None;
     }
 

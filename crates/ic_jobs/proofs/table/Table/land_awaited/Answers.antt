@@ -6,7 +6,7 @@ use Rattle.ic_jobs.specs.Job.{JobParts, moved, can_move}
 use Rattle.ic_jobs.specs.Table.{IsTable}
 use Rattle.ic_jobs.specs.Events.{apply}
 use Rattle.ic_jobs.proofs.EventLemmas.{running_open}
-use Rattle.ic_jobs.proofs.PlaceLemmas.{awaited_there, awaited_nowhere, can_land, round_kept, landed, IsTable-advanced}
+use Rattle.ic_jobs.proofs.PlaceLemmas.{awaited_there, awaited_nowhere, can_land, round_kept, quiet_kept, landed, IsTable-advanced}
 use Rattle.ic_jobs.proofs.table.Table.land_awaited.Goals as goal
 
 pub returns-in_default : goal.returns-in_default
@@ -27,6 +27,11 @@ advance-requires-clause-round c =
     let a = awaited_there c.deref.ensures.value c.self.view_is c.name.ensures.name c.self.invariant.0 c.in-Some.ensures.place c.requires c.index_mut.ensures.value in
     c.into_after-after.ensures.after ∙ round_kept c.args.played a.found.job c.into_after-after.ensures.sound a.agrees
     ∙ ap (λ (j : JobParts). round j.rules.rules j.config) (sym a.same)
+
+pub advance-requires-clause-quiet : goal.advance-requires-clause-quiet
+advance-requires-clause-quiet c =
+    let a = awaited_there c.deref.ensures.value c.self.view_is c.name.ensures.name c.self.invariant.0 c.in-Some.ensures.place c.requires c.index_mut.ensures.value in
+    c.is_quiet-quiet.ensures.quiet ∙ quiet_kept c.args.played a.found.job _ _ a.agrees a.same c.into_after-after.ensures.after
 
 pub invariant_of-self : goal.invariant_of-self
 invariant_of-self c =
