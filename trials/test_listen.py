@@ -6,6 +6,7 @@ import pty
 import re
 import resource
 import select
+import shutil
 import signal
 import socket
 import stat
@@ -289,6 +290,59 @@ class Sharing(Listens):
                 with listening.client() as again:
                     if again.ask("list") == "jobs":
                         break
+            self.ends_well(listening)
+
+
+def nc():
+    """A program of that name which knows Unix sockets; None where there is none."""
+    for name in ("nc", "nc.openbsd", "ncat"):
+        found = shutil.which(name)
+        if found and re.search(r"(?m)^\s*-U\b", shown_help(found)):
+            return found
+    return None
+
+
+def shown_help(program):
+    told = subprocess.run([program, "-h"], stdin=subprocess.DEVNULL, stdout=subprocess.PIPE, stderr=subprocess.STDOUT, timeout=PATIENCE)
+    return told.stdout.decode(errors="replace")
+
+
+class ByNc(Listens):
+    """A person with `nc -U` has an answer for each line, at once, like one with `send`, and may go in mid-line."""
+
+    def setUp(self):
+        super().setUp()
+        self.nc = nc()
+        if not self.nc:
+            self.skipTest("no nc that knows -U is installed: apt install netcat-openbsd")
+
+    @contextlib.contextmanager
+    def person(self, listening):
+        pipes = {"stdin": subprocess.PIPE, "stdout": subprocess.PIPE}
+        process = subprocess.Popen([self.nc, "-U", str(listening.path)], **pipes)
+        try:
+            yield process
+        finally:
+            process.kill()
+            process.communicate()
+
+    def says(self, person, line, answer):
+        person.stdin.write(line.encode() + b"\n")
+        person.stdin.flush()
+        self.equals(f"nc -U, {line}", "whether it is answered at once", [person.stdout], select.select([person.stdout], [], [], PATIENCE)[0])
+        self.equals(f"nc -U, {line}", "its answer", f"{answer}\n".encode(), person.stdout.readline())
+
+    def test_each_line_of_two_people_is_answered_at_once(self):
+        with self.listening() as listening, self.person(listening) as one, self.person(listening) as two, listening.client() as other:
+            self.says(one, f"submit two {TWO.text}", "accepted")
+            self.says(two, "submit two {} <|>", "refused taken")
+            self.says(two, "run 10", "ran 2")
+            self.says(one, "fetch two", "two done 2 <S(S(Z))|>")
+            two.stdin.write(b"cancel tw")
+            two.stdin.flush()
+            two.kill()
+            self.answers(other, "list", "jobs two:done:2")
+            self.says(one, "cancel two", "ok")
             self.ends_well(listening)
 
 

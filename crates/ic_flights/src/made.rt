@@ -24,15 +24,7 @@ pub fn made_for(alloc: Global, flight: &Flight, after: Flat) -> Result<Played, A
     let rules = flight.shared_rules().clone()?;
     let rounds = flight.rounds();
     let quiet = quiet(flight.rules(), &after);
-    Ok(Played::new(
-        alloc,
-        flight.name(),
-        rules,
-        before,
-        after,
-        rounds,
-        quiet,
-    )?)
+    Ok(Played::new(alloc, flight.name(), rules, before, after, rounds, quiet)?)
 }
 
 /// The flight of the next round of a job at a place, after one that was made.
