@@ -1,6 +1,6 @@
 //! Reading a net back.
 
-ghost use Rattle.std.specs.Prelude.{◌≡◌, ℕ, ◌+◌, ◌*◌, ◌++◌, length, reverse, IfOk};
+ghost use Rattle.std.specs.Prelude.{◌≡◌, ℕ, ◌+◌, ◌*◌, ◌++◌, [], length, reverse, IfOk};
 ghost use Rattle.ic_round.specs.Naming.{HasNames};
 ghost use Rattle.ic_reaching.specs.OneNet.{OneNet};
 ghost use Rattle.ic_machine.specs.Net.{pieces, Net as AnyNet};
@@ -11,7 +11,7 @@ ghost use Rattle.ic_readback.specs.Reading.{flat_words, configuration_read, AreG
 ghost use Rattle.ic_readback.specs.inner.Parted.{IsParted, ReadsNet};
 
 use crate::reader::Reader;
-use crate::token::ReadBack;
+use crate::token::{ReadBack, Token};
 use crate::writer::{Writer, write_loose};
 use ic_arena::Word;
 use ic_machine::{Equation, Machine, Places};
@@ -77,10 +77,15 @@ fn read_parts(
         → IsParted m interface.now pending.now aside.now places
         → ReadsNet m.arities m w.tokens.items w.equations) }
 {
+    let sides = pending.len().saturating_add(aside.len()).saturating_mul(2);
+    let tokens = list_for(
+        alloc,
+        most_tokens(&places, interface.len().saturating_add(sides)),
+    );
     let mut reader = Reader {
         places,
         stack: Vec::new(alloc),
-        tokens: Vec::new(alloc),
+        tokens,
         equations: 0,
     };
     reader.expand_all(interface, pending, aside)?;
@@ -89,4 +94,25 @@ fn read_parts(
     reader.read_left(alloc, &mut loose)?;
     let written = write_loose(alloc, loose, tokens, reader.equations)?;
     Ok(written)
+}
+
+/// How many tokens so many terms have at most, if no circle is left: one each, and one for each argument of an agent.
+fn most_tokens(places: &Places, terms: usize) -> usize {
+    let mut most = terms;
+    for symbol in 0..places.symbols() {
+        let arity = places.arity(symbol).unwrap_or(0) as usize;
+        let agents = places.agents(symbol) as usize;
+        most = most.saturating_add(agents.saturating_mul(arity));
+    }
+    most
+}
+
+/// A list without tokens, with room for so many if there is memory for them: it isn't moved then as it grows.
+fn list_for(alloc: Global, tokens: usize) -> Vec<Token>
+    ensures { result.items ≡ [] }
+{
+    match Vec::with_capacity(alloc, tokens) {
+        Ok(list) => list,
+        Err(_) => Vec::new(alloc),
+    }
 }
