@@ -66,7 +66,7 @@ config-fits limits p nodes terms are same =
     let many : length nodes ≡ phrase_nodes p = sym (length-map nodes node_of) ∙ ap length are ∙ length-phrase_prefix p in
     λ i. nat_le (same i) (most_interface limits) && nat_le (many i) (most_nodes limits)
 
-double : (n m : ℕ) → nat_le (2 * n) (2 * m) ≡ nat_le n m
+pub double : (n m : ℕ) → nat_le (2 * n) (2 * m) ≡ nat_le n m
 double n m = by (nat_le n m) refl
   where
     by : (b : Bool) → nat_le n m ≡ b → nat_le (2 * n) (2 * m) ≡ b

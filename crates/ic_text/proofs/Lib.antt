@@ -11,6 +11,7 @@ pub mod ScanningText
 pub mod SplitText
 pub mod Numbering
 pub mod NumberedSoFar
+pub mod Heads
 pub mod BuildLemmas
 pub mod JoinedLemmas
 pub mod PrefixWords
@@ -37,3 +38,4 @@ pub mod Surveying
 pub mod Innocence
 pub mod RuleNodes
 pub mod Fitting
+pub mod ByHeads

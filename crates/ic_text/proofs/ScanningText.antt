@@ -5,7 +5,7 @@ use Rattle.std.proofs.Math.Seq.{drop-length}
 use Rattle.std.proofs.lemmas.List.{drop_more, length-take, take-append-drop}
 use Rattle.ic_text.specs.declared.token.Mark.{Mark}
 use Rattle.ic_text.specs.Token.{Token, mark, is_blank, is_word_byte, mark_of, word_of, before, followed, tokens_at, tokens_after, tokens}
-use Rattle.ic_text.specs.inner.Prefix.{Scanned, scan, scan_at, scan_run}
+use Rattle.ic_text.specs.inner.Prefix.{Scanned, first_run, scan, scan_at, scan_run}
 use Rattle.ic_text.specs.lemmas.ReadOnce.{some-injective}
 use Rattle.ic_text.specs.lemmas.WordRuns.{tokens-parted}
 use Rattle.ic_text.proofs.Scanning.{counts_room, scan_fits}
@@ -18,6 +18,7 @@ pub record IsScanned (text : List ℕ) (place end : ℕ) (s : Scanned) : Type 0 
   pub few : length ts + end ≤ length text
   pub ordered : place ≤ end
   pub run : (front : List ℕ) → tokens_after front (drop place text) ≡ Some (word_of (front ++ take (end - place) (drop place text)) ++ ts)
+  pub longest : first_run (drop place text) ≡ take (end - place) (drop place text)
 
 empty_run : (text : List ℕ) (place : ℕ) → take (place - place) (drop place text) ≡ []
 empty_run text place = let none : place - place ≡ 0 = omega arith in ap (λ n. take n (drop place text)) none
@@ -34,6 +35,7 @@ nothing_scanned text s is = record {
   ordered = omega arith;
   run = λ front.
       ap (tokens_after front) (drop-length text) ∙ ap Some (sym (append-nil (word_of front)) ∙ ap (λ l. l ++ []) (no_more_run text front (length text)));
+  longest = ap first_run (drop-length text) ∙ sym (empty_run text (length text));
 }
 
 -- a run in front of tokens is scanned as its word
@@ -95,6 +97,12 @@ module _ (text : List ℕ) (place end : ℕ) (s : Scanned) (inside : place < len
         let step : tokens_after front (here ∷ after) ≡ tokens_after (front ++ here ∷ []) after = rw is_word refl in
         ap (tokens_after front) rest_here ∙ step ∙ so_far.run (front ++ here ∷ [])
         ∙ ap (λ l. Some (word_of l ++ so_far.ts)) (append_assoc front (here ∷ []) run ∙ ap (λ l. front ++ l) (sym longer));
+    longest =
+        let run = take (end - (place + 1)) after in
+        let more : end - place ≡ suc (end - (place + 1)) = omega (arith, so_far.ordered) in
+        let longer : take (end - place) (drop place text) ≡ here ∷ run = ap (take (end - place)) rest_here ∙ ap (λ n. take n (here ∷ after)) more in
+        let step : first_run (here ∷ after) ≡ here ∷ first_run after = rw is_word refl in
+        ap first_run rest_here ∙ step ∙ ap (λ l. here ∷ l) so_far.longest ∙ sym longer;
   }
 
   -- it ends the run, and has these tokens
@@ -115,6 +123,9 @@ module _ (text : List ℕ) (place end : ℕ) (s : Scanned) (inside : place < len
           ap (tokens_after front) rest_here ∙ step front
           ∙ (λ i. before (word_of front) (followed (at i) (so_far.run [] i)))
           ∙ ap (λ l. Some (l ++ (us ++ (word_run ++ so_far.ts)))) (no_more_run text front place);
+      longest =
+          let none : first_run (here ∷ after) ≡ [] = rw apart refl in
+          ap first_run rest_here ∙ none ∙ sym (empty_run text place);
     }
 
 -- where a text has tokens, so has each byte of it that is of no word
@@ -162,6 +173,9 @@ pub whole_run : (text : List ℕ) (place end : ℕ) → place ≡ 0 → take end
 whole_run text place end none =
     let all : end ≡ end - 0 = omega arith in
     ap (λ n. take n text) all ∙ ap (λ p. take (end - p) (drop p text)) (sym none)
+
+pub longest_whole : (text : List ℕ) (place end : ℕ) → place ≡ 0 → first_run (drop place text) ≡ take (end - place) (drop place text) → first_run text ≡ take end text
+longest_whole text place end none longest = ap (λ n. first_run (drop n text)) (sym none) ∙ longest ∙ sym (whole_run text place end none)
 
 pub all_scanned : (text : List ℕ) (place end : ℕ) (s r : Scanned) (so_far : IsScanned text place end s) → place ≡ 0 → r ≡ scan_run (take end text) s
     → (ts : List Token) → tokens text ≡ Some ts → r ≡ scan ts

@@ -212,3 +212,31 @@ pub(crate) fn excess_of(
         },
     }
 }
+
+/// Whether a configuration has neither too many terms in its interface nor too many words.
+fn config_is_within(limits: Limits, words: usize, terms: usize) -> bool
+    ensures { result ≡ (nat_le terms (most_interface limits)
+        && nat_le words (most_nodes limits)) }
+{
+    terms <= limits.interface_terms() && words as u64 <= limits.nodes()
+}
+
+/// Whether no limit is passed of how much is written: so many agents are the sides of the rules, which have these words,
+/// and the configuration has so many words, and so many terms in its interface.
+pub(crate) fn is_within(
+    limits: Limits,
+    rules: &[Node],
+    agents: usize,
+    words: usize,
+    terms: usize,
+) -> bool
+    requires { sum_by (λ w. w.arity) (nodes_of rules.now) < 2 ^ 64 }
+    ensures { result ≡ ((nat_le agents (2 * most_rules limits)
+        && rule_nodes_keep limits agents (nodes_of rules.now))
+        && (nat_le terms (most_interface limits) && nat_le words (most_nodes limits))) }
+{
+    match rules_excess(limits, rules, agents) {
+        Some(_) => false,
+        None => config_is_within(limits, words, terms),
+    }
+}

@@ -1,11 +1,11 @@
 //! Words of a text as words in flat form, symbols as numbers: the limits of words, and the arities of symbols.
 
-ghost use Rattle.std.specs.Prelude.{◌≡◌, ◌≢◌, ◌≤◌, length, IfErr, IfSome, OnOk, Some, slice_get};
+ghost use Rattle.std.specs.Prelude.{◌≡◌, ◌≢◌, ◌≤◌, ◌++◌, List, Ok, length, IfErr, IfOk, IfSome, OnOk, Some, slice_get};
 ghost use Rattle.std.specs.List.{AllByRecursion};
-ghost use Rattle.ic_term.specs.Symbol.{AreSymbols};
+ghost use Rattle.ic_term.specs.Symbol.{AreSymbols, Symbol};
 ghost use Rattle.ic_text.specs.Limits.{most_symbols};
-ghost use Rattle.ic_text.specs.inner.Prefix.{node_of, nodes_of};
-ghost use Rattle.ic_text.specs.inner.Numbered.{IsWord, WordAnswers, word_found, table_with, counted_words, Gives};
+ghost use Rattle.ic_text.specs.inner.Prefix.{head_words, node_of, nodes_of};
+ghost use Rattle.ic_text.specs.inner.Numbered.{IsWord, WordAnswers, word_found, table_with, counted_words, numbered_words, Gives};
 ghost use Rattle.ic_text.specs.inner.Refused.{Takes, Stops, bare};
 
 use crate::excess::{Excess, limit_at};
@@ -13,7 +13,7 @@ use crate::fault::TextFault;
 use crate::limits::Limits;
 use crate::misread::Limit;
 use crate::name::{is_name, name_number};
-use crate::prefix::Node;
+use crate::prefix::{Head, Node};
 use crate::refusal::Refusal;
 use ic_flat::Word;
 use ic_term::{MAX_ARITY, MAX_SYMBOL_TEXT, SymbolFault, Symbols, is_symbol};
@@ -229,6 +229,45 @@ pub(crate) fn number_words(
     } = numbering;
     match clash {
         Some(clash) => Err(Refusal::two_arities(clash.word, clash.first, clash.second)),
+        None => Ok((symbols, words)),
+    }
+}
+
+/// The same after words that are numbered already, of words that begin at places of a text. A refusal tells no word.
+pub(crate) fn number_heads(
+    alloc: Global,
+    limits: Limits,
+    symbols: Symbols,
+    mut words: Vec<Word>,
+    text: &[u8],
+    heads: &[Head],
+) -> Result<(Symbols, Vec<Word>), Refusal>
+    requires words { AllByRecursion IsWord (head_words text.now heads.now) }
+    requires few { length symbols ≤ most_symbols limits }
+    ensures { IfOk result (λ v. (ws : List Symbol) →
+        Ok (symbols, words.items) ≡ numbered_words limits ws →
+        Ok (v.0, v.1.items) ≡ numbered_words limits (ws ++ head_words text.now heads.now)) }
+{
+    words.reserve(heads.len())?;
+    let numbers = vec![in alloc; 0; REMEMBERED]?;
+    let mut numbering = Numbering {
+        symbols,
+        words,
+        numbers,
+        clash: None,
+    };
+    for head in heads {
+        let node = head.node(text);
+        numbering.take(limits, 0, &node)?;
+    }
+    let Numbering {
+        symbols,
+        words,
+        clash,
+        ..
+    } = numbering;
+    match clash {
+        Some(_) => Err(Refusal::untold(TextFault::Arity)),
         None => Ok((symbols, words)),
     }
 }

@@ -14,12 +14,12 @@ ghost use Rattle.ic_text.specs.SystemText.{IsSystemText, IsSystemTextWithin};
 
 use crate::blame::refusal_of;
 use crate::build::system_of;
-use crate::excess::excess_of;
+use crate::excess::{excess_of, is_within};
 use crate::fault::TextFault;
 use crate::limits::Limits;
 use crate::misread::{Detail, Limit, Misread};
-use crate::number::number_words;
-use crate::prefix::prefix_of;
+use crate::number::{number_heads, number_words};
+use crate::prefix::{outline_of, prefix_of};
 use crate::refusal::Refusal;
 use crate::survey::{Counts, survey_system};
 use crate::syntax::split_at_brace;
@@ -27,8 +27,38 @@ use ic_flat::{FlatSystem, WideSystem};
 use ic_rules::System;
 use std::alloc::Global;
 
-/// The sense of a text that spells a system of so many words. Every limit is tested before a term is built.
-fn sense_of(
+/// The sense of a text that spells a system of so many words. Of the words of its configuration no more is kept than where
+/// they begin, so a refusal tells no word.
+fn sense_by_heads(
+    alloc: Global,
+    limits: Limits,
+    text: &[u8],
+    counts: Counts,
+) -> Result<WideSystem, Refusal>
+    requires { Tells IsSystemPhrase system_words text.now (Some counts) }
+    ensures { IfOk result (λ system. (s : SystemPhrase) → SpellsSystem text.now s →
+        Ok system ≡ system_sense_within limits s) }
+{
+    let (front, rest) = split_at_brace(text);
+    let rules = prefix_of(alloc, front, counts.words)?;
+    let config = outline_of(alloc, rest, counts.words)?;
+    let before = rules.words();
+    let many = config.words();
+    let terms = config.terms;
+    if !is_within(limits, &rules.nodes, rules.terms, many, terms) {
+        return Err(Refusal::untold(TextFault::Limit));
+    }
+    let (table, numbered) = number_words(alloc, limits, &rules.nodes, None)?;
+    let (symbols, words) = number_heads(alloc, limits, table, numbered, rest, &config.heads)?;
+    drop(config);
+    match system_of(alloc, symbols, words, before, terms) {
+        Ok(system) => Ok(system),
+        Err(fault) => Err(Refusal::untold(fault)),
+    }
+}
+
+/// The same by nodes for all words, so that a refusal is told with its word. Every limit is tested before a term is built.
+fn sense_by_nodes(
     alloc: Global,
     limits: Limits,
     text: &[u8],
@@ -53,6 +83,26 @@ fn sense_of(
     match system_of(alloc, symbols, words, before, terms) {
         Ok(system) => Ok(system),
         Err(fault) => Err(refusal_of(fault, &rules.nodes, before)),
+    }
+}
+
+/// The sense of a text that spells a system of so many words.
+fn sense_of(
+    alloc: Global,
+    limits: Limits,
+    text: &[u8],
+    counts: Counts,
+) -> Result<WideSystem, Refusal>
+    requires { Tells IsSystemPhrase system_words text.now (Some counts) }
+    ensures sense { (s : SystemPhrase) → SpellsSystem text.now s →
+        Gives (λ system. system) (bare result) (system_sense_within limits s) }
+    ensures nodes { IfOk result (λ s. configuration_nodes s.config ≤ most_nodes limits) }
+    ensures interface { IfOk result (λ s. length s.config.interface ≤ most_interface limits) }
+    ensures served { IfOk result (λ s. limits ≡ Limits.Served → AreServed s.rules) }
+{
+    match sense_by_heads(alloc, limits, text, counts) {
+        Ok(system) => Ok(system),
+        Err(_) => sense_by_nodes(alloc, limits, text, counts),
     }
 }
 

@@ -1,11 +1,12 @@
 -- For private functions: how words are found in tokens that are scanned from their end.
-use Rattle.std.specs.Prelude.{ℕ, ◌+◌, List, [], ◌∷◌, Option, None, Some, map, reverse}
+use Rattle.std.specs.Prelude.{ℕ, ◌+◌, List, [], ◌∷◌, Option, None, Some, map, reverse, drop, if◌then◌else◌}
 use Rattle.ic_term.specs.Symbol.{Symbol}
 use Rattle.ic_text.specs.declared.token.Mark.{Mark}
 use Rattle.ic_text.specs.declared.token.Mark.TheVariants.{Bar, Comma, Open, Close}
 use Rattle.ic_text.specs.declared.prefix.Node.{Node}
+use Rattle.ic_text.specs.declared.prefix.Head.{Head}
 use Rattle.ic_text.specs.declared.prefix.Scan.{Scan}
-use Rattle.ic_text.specs.Token.{Token, mark, word}
+use Rattle.ic_text.specs.Token.{Token, mark, word, is_word_byte}
 
 -- What is known of tokens that were scanned from their end: the words, the arguments so far of each
 -- list that is open, those of the list that just opened, and the terms outside all parentheses
@@ -77,10 +78,22 @@ node_of n = record { text = n.text.now; arity = n.arity }
 abbrev pub nodes_of : List Node → List Symbol
 nodes_of ns = map node_of ns
 
--- the reader's scan, which keeps its lists from the end
-abbrev pub scanned : Scan → Scanned
-scanned s = record {
-  nodes = reverse (nodes_of s.nodes.items);
+-- the word bytes that a text begins with
+abbrev pub first_run : List ℕ → List ℕ
+first_run [] = []
+first_run (b ∷ bs) = if is_word_byte b then b ∷ first_run bs else []
+
+-- the word of a text that begins at a place
+abbrev pub head_word : List ℕ → Head → Symbol
+head_word text h = record { text = first_run (drop h.start text); arity = h.arity }
+
+abbrev pub head_words : List ℕ → List Head → List Symbol
+head_words text hs = map (head_word text) hs
+
+-- the reader's scan of a text, which keeps its lists from the end
+abbrev pub scanned : List ℕ → Scan → Scanned
+scanned text s = record {
+  nodes = reverse (head_words text s.heads.items);
   counts = reverse s.counts.items;
   arity = s.arity;
   terms = s.terms;

@@ -1,5 +1,6 @@
 use Rattle.std.proofs.Common.{refl}
 use Rattle.std.proofs.lemmas.Result.{err_from_is_err_and}
+use Rattle.ic_text.specs.inner.Numbered.{numbered_words}
 use Rattle.ic_text.specs.inner.Prefix.{nodes_of}
 use Rattle.ic_text.proofs.NumberedSoFar.{begins, goes_on, is_word_there, refused_counted, rest_there, stops_counted, stops_there}
 use Rattle.ic_text.proofs.number.number_words.Goals as goal
@@ -18,7 +19,7 @@ take-requires-clause-few c = c.loop-word.invariant.few
 
 pub loop-word-preserved : goal.loop-word-preserved
 loop-word-preserved c =
-    goes_on c.args.limits (nodes_of c.args.nodes.now) c.loop-word.word _ (rest_there c.args.nodes.now c.loop-word.word _ c.loop-word-test.true) c.loop-word.numbering c.loop-word.invariant _ c.in_ok-take.ensures.went
+    goes_on c.args.limits (numbered_words c.args.limits (nodes_of c.args.nodes.now)) (nodes_of c.args.nodes.now) c.loop-word.word _ (rest_there c.args.nodes.now c.loop-word.word _ c.loop-word-test.true) c.loop-word.numbering c.loop-word.invariant _ c.in_ok-take.ensures.went
 
 pub returns-in_err-take : goal.returns-in_err-take
 returns-in_err-take c =
@@ -26,4 +27,4 @@ returns-in_err-take c =
     let stopped = c.in_err-take.ensures.stopped in
     rw (e.1, e.2)
     (refused_counted c.args.limits (nodes_of c.args.nodes.now) c.args.excess _ c.in_err-take.field-0.0.fault stopped
-    (stops_there c.args.limits (nodes_of c.args.nodes.now) c.loop-word.word _ (rest_there c.args.nodes.now c.loop-word.word _ c.loop-word-test.true) c.loop-word.numbering c.loop-word.invariant c.in_err-take.field-0.0.fault stopped))
+    (stops_there c.args.limits (numbered_words c.args.limits (nodes_of c.args.nodes.now)) (nodes_of c.args.nodes.now) c.loop-word.word _ (rest_there c.args.nodes.now c.loop-word.word _ c.loop-word-test.true) c.loop-word.numbering c.loop-word.invariant c.in_err-take.field-0.0.fault stopped))

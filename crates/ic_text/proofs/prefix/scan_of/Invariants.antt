@@ -7,7 +7,7 @@ use Rattle.ic_text.proofs.prefix.scan_of.Given as goal
 abbrev pub invariant-loop-place : goal.invariant-loop-place
 invariant-loop-place l = record {
   fits : length l.text < 2 ^ 64;
-  so_far : IsScanned l.text l.place l.end (scanned l.scan);
+  so_far : IsScanned l.text l.place l.end (scanned l.text l.scan);
 }
 
 abbrev pub decreases-loop-place : goal.decreases-loop-place
