@@ -1,6 +1,6 @@
 -- Lemmas: a net whose equations that were set aside stand in the other order.
-use Rattle.std.proofs.Common.{◌≡◌, ℕ, ◌+◌, ◌≤◌, List, ◌++◌, map, reverse, arith}
-use Rattle.std.specs.Prelude.{IsPermutation, sum_by}
+use Rattle.std.proofs.Common.{ℕ, List, ◌++◌, map, reverse, arith}
+use Rattle.std.specs.Prelude.{IsPermutation}
 use Rattle.std.specs.List.{flat_map}
 use Rattle.std.proofs.lemmas.List.Sorted.{IsPermutation-append_left, IsPermutation-append_right, IsPermutation-map, IsPermutation-reverse, sum_by-IsPermutation}
 use Rattle.ic_arena.specs.declared.word.Word.{Word}

@@ -13,7 +13,7 @@ use Rattle.ic_text.specs.Limits.{most_symbols}
 use Rattle.ic_text.specs.Token.{is_word_byte}
 use Rattle.ic_text.specs.inner.Numbered.{is_word_in_limits, is_word_over, numbered_words, table_over, table_with, unless_refused, word_found, word_from}
 use Rattle.ic_text.specs.inner.Prefix.{first_run}
-use Rattle.ic_text.proofs.Numbering.{finish, go, go_on, go-numbered_words}
+use Rattle.ic_text.proofs.Numbering.{go, go_on, go-numbered_words}
 use Rattle.std.specs.List.{list_all}
 use Rattle.std.proofs.Common.{map}
 

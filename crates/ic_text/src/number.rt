@@ -164,6 +164,7 @@ pub(crate) struct Numbering {
 impl Numbering {
     /// Numbers the word after so many others. Goes on after a symbol that has two arities, since limits come before
     /// arities.
+    #[inline(always)]
     fn take(&mut self, limits: Limits, word: usize, node: &Node) -> Result<(), Refusal>
         requires word { IsWord (node_of node.now) }
         requires few { length self.old.symbols ≤ most_symbols limits }

@@ -45,6 +45,7 @@ pub(crate) struct Head {
 
 impl Head {
     /// The word of this text, which begins there.
+    #[inline(always)]
     pub(crate) fn node(self, text: &[u8]) -> Node
         ensures { node_of result ≡ head_word text.now self }
     {

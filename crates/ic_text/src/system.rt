@@ -40,7 +40,7 @@ fn sense_by_heads(
         Ok system ≡ system_sense_within limits s) }
 {
     let (front, rest) = split_at_brace(text);
-    let rules = prefix_of(alloc, front, counts.words)?;
+    let rules = prefix_of(alloc, front, front.len().min(counts.words))?;
     let config = outline_of(alloc, rest, counts.words)?;
     let before = rules.words();
     let many = config.words();

@@ -10,7 +10,7 @@ use Rattle.ic_text.specs.declared.token.Mark.TheVariants.{LeftBrace}
 use Rattle.ic_text.specs.Token.{mark, tokens}
 use Rattle.ic_text.specs.inner.Braces.{split_at_brace}
 use Rattle.ic_text.specs.Source.{phrase_words}
-use Rattle.ic_text.specs.SystemSource.{SystemPhrase, IsSystemPhrase, rules_words, system_words}
+use Rattle.ic_text.specs.SystemSource.{SystemPhrase, rules_words, system_words}
 use Rattle.ic_text.proofs.SystemPrefix.{split-system}
 use Rattle.ic_text.proofs.ByHeads.{Outlined, config_words, fits_here, paired_outlined, rules_room, rules_words as words_of_rules, sense_outlined}
 use Rattle.ic_text.proofs.Heads.{few_numbered}
