@@ -100,7 +100,7 @@ fn counts_of(alloc: Global, names: &[u64]) -> Result<NameTable, AllocError>
     requires { length names.now < u32.MAX }
     ensures { IfOk result (AreCounts names.now) }
 {
-    let mut counts = NameTable::new(alloc, names)?;
+    let mut counts = NameTable::new(alloc, counted_among(names))?;
     for name in names {
         if *name <= MAX_NAME {
             let count = counts.get(*name).unwrap_or(0);
@@ -108,6 +108,15 @@ fn counts_of(alloc: Global, names: &[u64]) -> Result<NameTable, AllocError>
         }
     }
     Ok(counts)
+}
+
+/// The names that a table of counts is laid out for: none, if none of these may stand in a text.
+fn counted_among(names: &[u64]) -> &[u64] {
+    if names.iter().any(|name| *name <= MAX_NAME) {
+        names
+    } else {
+        &[]
+    }
 }
 
 /// Whether a name is kept, among names that are counted so.
@@ -127,7 +136,7 @@ fn spare_numbers(
     requires { AreCounts names.now counts.now }
     ensures { IfOk result (λ spare. AreSpare names.now firsts spare.items) }
 {
-    let mut spare = Vec::new(alloc);
+    let mut spare = Vec::with_capacity(alloc, (firsts as usize).saturating_add(1))?;
     for number in 0..names.len() as u64 + names.len() as u64 {
         if spare.len() > firsts as usize {
             return Ok(spare);
