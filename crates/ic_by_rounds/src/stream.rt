@@ -1,6 +1,6 @@
 //! Tracing what a reader gives.
 
-ghost use Rattle.std.specs.Prelude.{◌≢◌, IfErr, OnOk};
+ghost use Rattle.std.specs.Prelude.{◌≡◌, ◌≢◌, IfErr, OnOk};
 ghost use Rattle.std.specs.Io.KnownBytes.{Keeps};
 ghost use Rattle.ic_streams.specs.Streams.{OfText, TakesAtWithin, TakesTextWithin};
 ghost use Rattle.ic_by_rounds.specs.Traces.{IsTraced};
@@ -45,6 +45,7 @@ pub fn trace_stream<V: Watch, R: Read, W: Write>(
         (TakesTextWithin limits (R.remaining reader.old) (R.remaining reader.new)) }
     ensures taken_at_fault { IfErr result
         (λ fault. TakesAtWithin limits fault (R.remaining reader.old) (R.remaining reader.new)) }
+    ensures quiet { OnOk result (told.new.items ≡ told.old.items) }
 {
     ic_in_place::laws::what_is_told_of_rounds();
     ic_in_place::laws::amounts_are_those_of_rounds();

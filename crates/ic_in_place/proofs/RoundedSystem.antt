@@ -21,8 +21,7 @@ use Rattle.ic_in_place.specs.declared.running.End.TheVariants.{Quiet, Steps}
 use Rattle.ic_in_place.proofs.LineByRounds.{LineLaws, net, same}
 use Rattle.ic_in_place.proofs.MadeRounds.{Made, may_cut, may_some, may_within}
 use Rattle.ic_in_place.proofs.RoundsEnough.{EnoughLaws, ended_quiet, first, later, quiet, steps, within}
-use Rattle.ic_in_place.proofs.RoundsFired.{early_so, of_rounds}
-use Rattle.ic_in_place.proofs.RoundsTold.{LeftBeside, LeftLaws, left_of}
+use Rattle.ic_in_place.proofs.RoundsFired.{PartLaw, begun_so, early_so, of_rounds}
 
 -- what is quiet after rounds is the net that was reached
 abbrev pub RoundsLaw : Type 0
@@ -50,7 +49,7 @@ ReadSo s enough most taken given m reduced by_rule end = (rounded : HasRounded s
     × IsReached s rounded.bounds answer reduced.end reduced.interactions reduced.by_rule.items × IsPutTogether answer
     × TellsNameSteps s.rules.rules s.config reduced.interactions (length answer.equations) reduced.end reduced.name_steps
     × Writes s.rules.symbols reduced.words.items reduced.terms reduced.equations answer
-    × IsNetOf rounded.come.held.numbers m answer × GoOn (Some enough) taken rounded.ends.told
+    × IsNetOf rounded.come.held.numbers m answer × GoOn (Some enough) taken end (length rounded.ends.since.fired) rounded.ends.told
 
 pub read_so : (s : SystemParts) (enough most taken : ℕ) (given : List ℕ) (m : Net) (reduced : Reduced) (is js : List ℕ) (end last : End) → is ≡ js → end ≡ last
     → ReadSo s enough most taken given m reduced is end → ReadSo s enough most taken given m reduced js last
@@ -58,10 +57,10 @@ read_so s enough most taken given m reduced is js end last counts ends read =
     transport (λ (e : End). ReadSo s enough most taken given m reduced js e) ends
     (transport (λ (l : List ℕ). ReadSo s enough most taken given m reduced l end) counts read)
 
-pub rounded_to : LineLaws → EnoughLaws → RoundsLaw → LeftLaws → (s : SystemParts) (rounds enough most taken made : ℕ) (given : List ℕ) (m : Net) (reduced : Reduced)
+pub rounded_to : LineLaws → EnoughLaws → RoundsLaw → PartLaw → (s : SystemParts) (rounds enough most taken made : ℕ) (given : List ℕ) (m : Net) (reduced : Reduced)
     → MayEnd rounds (Some enough) most reduced.interactions → reduced.interactions ≡ m.interactions → ReadSo s enough most taken given m reduced reduced.by_rule.items reduced.end
     → CountsRounds reduced.end reduced.interactions reduced.name_steps taken made → IsRoundedTo s rounds enough made reduced
-rounded_to lines laws in_rounds left_laws s rounds enough most taken made given m reduced may same read count =
+rounded_to lines laws in_rounds part s rounds enough most taken made given m reduced may same read count =
     let answer = read.1 in
     let e : Made s most made answer reduced.end reduced.interactions reduced.by_rule.items reduced.name_steps = record {
       given = given;
@@ -73,10 +72,6 @@ rounded_to lines laws in_rounds left_laws s rounds enough most taken made given 
       net = read.6;
       count = count;
     } in
-    let come = read.0.come in
-    let left : LeftBeside come.plans read.0.first read.0.pairs s.rules.rules s.config =
-    left_of left_laws s.rules come.rule_numbers come.plans s.config given come.plan come.operands read.0.pairs read.0.first come.sound.rules come.sound.over come.sound.names come.compiled
-    read.0.begun read.0.firsts in
     record {
       bounds = read.0.bounds;
       answer = answer;
@@ -98,7 +93,8 @@ rounded_to lines laws in_rounds left_laws s rounds enough most taken made given 
             (may_some rounds most reduced.interactions (Some enough) may one);
       };
       early = early_so s most made answer reduced.end reduced.interactions reduced.by_rule.items reduced.name_steps e enough read.7;
-      fired = of_rounds s most made answer reduced.end reduced.interactions reduced.by_rule.items reduced.name_steps e same left;
+      begun = begun_so s most made answer reduced.end reduced.interactions reduced.by_rule.items reduced.name_steps e enough read.7 same;
+      fired = of_rounds s most made answer reduced.end reduced.interactions reduced.by_rule.items reduced.name_steps e same part;
       name_steps = read.4;
       all = λ at. may_cut rounds most reduced.interactions enough made may (steps laws s most made answer reduced.end reduced.interactions reduced.by_rule.items reduced.name_steps e at).0;
     }

@@ -63,8 +63,8 @@ pub rounded_so : LawOfRounded → (s : SystemParts) (most rounds nodes : ℕ) (n
     → ((x : ℕ) → (occurrences x (configuration_names s.config) ≡ 1) ↔ Contains given x) → LinksPairsFirst p.arities (length given) plan pairs
     → IsBegun p (length given) plan operands old → (ends : EndsAfter p pairs most rounds end old m) → AllByRecursion IsPair m.pending
     → (by_rule : List ℕ) → IsSummed (length s.rules.rules) numbers m.counts by_rule → length numbers ≡ length p.plans → m.interactions < 2 ^ 64
-    → (P : List ℕ → List RoundOver → Type 0) → P numbers ends.told
-    → (rounded : HasRounded s most rounds given by_rule m end) × P rounded.come.rule_numbers rounded.ends.told
+    → (P : List ℕ → ℕ → List RoundOver → Type 0) → P numbers (length ends.since.fired) ends.told
+    → (rounded : HasRounded s most rounds given by_rule m end) × P rounded.come.rule_numbers (length rounded.ends.since.fired) rounded.ends.told
 unfolding come_from
 rounded_so law s most rounds nodes numbers p given plan operands pairs old m end sound arities plans of_rules start stands are firsts begun ends all_pairs by_rule summed numbered low P holds =
     let compiled = compiled_so s numbers p given plan operands sound arities plans of_rules start stands are in

@@ -1,32 +1,42 @@
 -- Lemmas: what is counted of a system that was reduced by rounds is what they fire, and what fired since.
-use Rattle.std.proofs.Common.{◌≡◌, ◌⊎◌, inl, inr, ⊎_elim, ℕ, suc, ◌+◌, ◌≤◌, ◌<◌, List, [], ◌∷◌, ◌++◌, true, false, Option, Some, length, map, sum_by, refl, sym, ap, ◌∙◌, arith, subst}
+use Rattle.std.proofs.Common.{◌≡◌, ◌⊎◌, inl, inr, ⊎_elim, ℕ, suc, ◌+◌, ◌-◌, ◌≤◌, ◌<◌, List, [], ◌∷◌, ◌++◌, true, false, Option, Some, length, map, sum_by, refl, sym, ap, ◌∙◌, arith, subst}
 use Rattle.std.proofs.lemmas.Bool.{cases_lt}
 use Rattle.std.proofs.lemmas.List.{length-append, length-map, map-append}
 use Rattle.std.proofs.lemmas.List.Sums.{sum_by-cons}
 use Rattle.std.proofs.lemmas.List.Sorted.{IsPermutation-append, IsPermutation-refl, length_permutation}
 use Rattle.std.specs.List.{AllByRecursion, concat}
-use Rattle.std.specs.Prelude.{IsPermutation}
-use Rattle.ic_term.specs.Tree.{Tree}
+use Rattle.std.specs.Prelude.{IsPermutation, IsTrue}
 use Rattle.ic_term.specs.Configuration.{Configuration}
+use Rattle.ic_term.specs.Symbol.{is_over}
 use Rattle.ic_rules.specs.Rule.{Rule}
+use Rattle.ic_rules.specs.RuleSet.{IsRuleSet, Rules}
 use Rattle.ic_rules.specs.System.{SystemParts}
+use Rattle.ic_round.specs.Naming.{HasNames}
 use Rattle.ic_round.specs.Rounds.{iterate, round}
 use Rattle.ic_generations.specs.Firings.{rules_of}
-use Rattle.ic_machine.specs.Net.{Net, equations_left}
-use Rattle.ic_machine.specs.Plan.{Planned, Plans}
+use Rattle.ic_arena.specs.declared.word.TheConstants.{GIVEN}
+use Rattle.ic_machine.specs.declared.generation.Generation.{Generation}
+use Rattle.ic_machine.specs.Generations.{IsWithin}
+use Rattle.ic_machine.specs.Net.{IsPair, Net, pieces}
+use Rattle.ic_machine.specs.Plan.{ArePlans, IsPlan, Planned, Plans}
+use Rattle.ic_machine.specs.Runs.{Starts}
+use Rattle.ic_machine.specs.Separate.{IsSeparate}
+use Rattle.ic_meaning.specs.First.{LinksPairsFirst}
 use Rattle.ic_meaning.specs.Generations.{FireAsRounds}
-use Rattle.ic_meaning.specs.Plans.{StandsForNet, equations_made, first_made, held_made, linked_terms, named_terms, rule_number}
+use Rattle.ic_meaning.specs.InPlace.{AreRounds}
+use Rattle.ic_meaning.specs.Plans.{ArePlansOf, StandsForNet, rule_number}
 use Rattle.ic_meaning.specs.lemmas.Orders.{all_back, all_front}
 use Rattle.ic_in_place.specs.Counting.{AreCounts, AreOfRounds, rules_in}
-use Rattle.ic_in_place.specs.Rounds.{AreOver, AreTold, GoOn, next_pairs, none_told, one_told, stands_still}
-use Rattle.ic_in_place.specs.Told.{IsBetween, RoundOver}
+use Rattle.ic_in_place.specs.Holding.{AreGiven}
+use Rattle.ic_in_place.specs.Rounds.{AreTold, GoOn, IsBrokenOff, none_told, one_told, stands_still}
+use Rattle.ic_in_place.specs.Told.{RoundOver}
 use Rattle.ic_in_place.specs.declared.running.End.{End}
 use Rattle.ic_in_place.specs.lemmas.RoundsOn.{rules_first}
 use Rattle.ic_in_place.proofs.LineByRounds.{nothing_fired}
 use Rattle.ic_in_place.proofs.MadeRounds.{Made}
 use Rattle.ic_in_place.proofs.NameSteps.{counts_moved}
 use Rattle.ic_in_place.proofs.RoundsNeeded.{over_counted}
-use Rattle.ic_in_place.proofs.RoundsTold.{LeftBeside, last_fires}
+use Rattle.ic_in_place.proofs.RoundsTold.{last_fires}
 use Rattle.ic_in_place.proofs.Still.{still_none, still_or_not}
 
 -- the plans that fired in rounds are of the rules that fire in them
@@ -57,38 +67,33 @@ rounds_many rs numbers made c fire =
     let all = concat_length made in
     omega (arith, moved, mapped, all)
 
--- ---- how many pairs the next round takes
+-- ---- what fires in a round that is broken off
 
-next_within : (p : Plans) (first : Net) (pairs : ℕ) (rs : List Rule) (c : Configuration) → LeftBeside p first pairs rs c → pairs ≤ length c.equations
-    → (made : List (List ℕ)) (last : Net) → AreOver p first pairs made last → (1 ≤ length made → IsBetween last) → next_pairs pairs made last ≤ length (iterate rs (length made) c).equations
-next_within p first pairs rs c left low [] last over between = low
-next_within p first pairs rs c left low (fired ∷ made) last over between =
-    let one : 1 ≤ length (fired ∷ made) = omega arith in
-    let known = left (fired ∷ made) last over (between one) one in
-    let parts : equations_left last ≡ length last.pending + length last.aside = refl in
-    omega (arith, known, parts)
-
--- as many equations are made by a plan as it links
-linked_made : (k : ℕ) (p : Planned) (held : ℕ → Tree) → length (equations_made k p held) ≡ length p.links
-linked_made k p held = length-map p.links (linked_terms (held_made k p.made held))
-
-links_within : (arities given : List ℕ) (c : Configuration) (p : Planned) (operands : List ℕ) → StandsForNet arities given c p operands → length p.links ≡ length c.equations
-links_within arities given c p operands stands =
-    let k = first_made arities (length given) p in
-    let held = named_terms (length arities) (given ++ stands.names) in
-    let moved = length_permutation (equations_made k p held) c.equations stands.equations in
-    let linked = linked_made k p held in
-    omega (arith, moved, linked)
+-- what the law says of it
+abbrev pub PartLaw : Type 0
+PartLaw = (rs : Rules) (numbers given operands : List ℕ) (p : Plans) (c : Configuration) (plan : Planned) (pairs : ℕ) (first m : Net) (over : List (List ℕ)) (now : List ℕ) (g : Generation)
+    → IsRuleSet rs → IsTrue (is_over rs.symbols c) → HasNames c → ArePlans p → ArePlansOf rs numbers p → length p.arities < GIVEN
+    → IsPlan p.arities (length given) plan → StandsForNet p.arities given c plan operands → AreGiven given c
+    → LinksPairsFirst p.arities (length given) plan pairs → Starts p (length given) plan operands first
+    → IsSeparate p.arities first.interface (pieces first) → first.aside ≡ [] → AreRounds p first pairs over now g m → AllByRecursion IsPair m.pending
+    → FireAsRounds rs.rules numbers over c
+    × ((rest : List ℕ) × IsPermutation (map (rule_number numbers) now ++ rest) (rules_of rs.rules (iterate rs.rules (length over) c).equations))
 
 -- ---- each round but the first began before enough interactions were made
 
-early_rounds : (p : Plans) (first : Net) (pairs : ℕ) (rs : List Rule) (numbers : List ℕ) (c : Configuration) (n taken : ℕ) → first.interactions ≡ 0
+at_round : {B : Type 0} (j k taken : ℕ) → j ≡ k → (k < taken) ⊎ B → (j < taken) ⊎ B
+at_round j k taken same (inl low) = inl (omega (arith, same, low))
+at_round j k taken same (inr b) = inr b
+
+-- also one that was broken off
+early_rounds : (p : Plans) (first : Net) (pairs : ℕ) (rs : List Rule) (numbers : List ℕ) (c : Configuration) (n taken : ℕ) (end : End) (since : ℕ) → first.interactions ≡ 0
     → (made : List (List ℕ)) (told : List RoundOver) → AreTold p first pairs made told → FireAsRounds rs numbers made c
-    → AllByRecursion (λ o. o.round < taken → o.net.interactions < n) told → (k : ℕ) → 1 ≤ k → k ≤ length made → k < taken → length (rules_in rs k c) < n
-early_rounds p first pairs rs numbers c n taken none made told none_told fire each k one low few = absurd (omega (arith, one, low))
-early_rounds p first pairs rs numbers c n taken none made told (one_told over fired so_far m are done between) fire each k one low few =
+    → AllByRecursion (λ o. (o.round < taken) ⊎ IsBrokenOff end since → o.net.interactions < n) told
+    → (k : ℕ) → 1 ≤ k → k ≤ length made → (k < taken) ⊎ IsBrokenOff end since → length (rules_in rs k c) < n
+early_rounds p first pairs rs numbers c n taken end since none made told none_told fire each k one low few = absurd (omega (arith, one, low))
+early_rounds p first pairs rs numbers c n taken end since none made told (one_told over fired so_far m are done between) fire each k one low few =
     let o : RoundOver = record { round = length over + 1; pairs = length fired; net = m } in
-    let P : RoundOver → Type 0 = λ x. x.round < taken → x.net.interactions < n in
+    let P : RoundOver → Type 0 = λ x. (x.round < taken) ⊎ IsBrokenOff end since → x.net.interactions < n in
     let all : List (List ℕ) = over ++ fired ∷ [] in
     let before = last_fires rs numbers over fired c fire in
     let earlier = all_front P so_far (o ∷ []) each in
@@ -99,10 +104,10 @@ early_rounds p first pairs rs numbers c n taken none made told (one_told over fi
     let same : length all ≡ k = omega (arith, longer, last, low) in
     let count = over_counted p first m pairs all done in
     let many = rounds_many rs numbers all c fire in
-    let here = own.0 (omega (arith, longer, same, few)) in
+    let here = own.0 (at_round (length over + 1) k taken (sym longer ∙ same) few) in
     let there : length (rules_in rs (length all) c) < n = omega (arith, here, count, many, none) in
     subst (λ (j : ℕ). length (rules_in rs j c) < n) same there)
-    (λ early. early_rounds p first pairs rs numbers c n taken none over so_far are before.0 earlier k one early few)
+    (λ early. early_rounds p first pairs rs numbers c n taken end since none over so_far are before.0 earlier k one early few)
     (cases_lt (length over) k)
 
 -- ---- of a system
@@ -132,24 +137,41 @@ module _ (s : SystemParts) (most rounds : ℕ) (answer : Configuration) (end : E
       (IsPermutation-append (map (rule_number numbers) (concat made)) (rules_in rs (length made) s.config) since since
       (rounds_rules rs numbers made s.config e.rounded.rules) (IsPermutation-refl since))
 
-  module _ (same : interactions ≡ e.machine.interactions) (left : LeftBeside e.rounded.come.plans e.rounded.first e.rounded.pairs s.rules.rules s.config) where
+  -- with the rest of the next round that is what it fires
+  part_of : PartLaw → (rest : List ℕ) × IsPermutation (since ++ rest) (rules_of rs (iterate rs (length made) s.config).equations)
+  part_of law = by e.rounded.ends.under_way
+    where
+      by : (e.rounded.ends.since.fired ≡ []) ⊎ ((g : Generation) × (1 ≤ g.end) × IsWithin g e.machine.pending
+          × AreRounds e.rounded.come.plans e.rounded.first e.rounded.pairs made e.rounded.ends.since.fired g e.machine)
+          → (rest : List ℕ) × IsPermutation (since ++ rest) (rules_of rs (iterate rs (length made) s.config).equations)
+      by (inl none) =
+          let all = rules_of rs (iterate rs (length made) s.config).equations in
+          (all, subst (λ (l : List ℕ). IsPermutation (map (rule_number numbers) l ++ all) all) (sym none) (IsPermutation-refl all))
+      by (inr way) =
+          let r = e.rounded in
+          let compiled = r.come.compiled in
+          (law s.rules numbers e.given r.come.operands r.come.plans s.config r.come.plan r.pairs r.first e.machine made r.ends.since.fired way.0
+          r.come.sound.rules r.come.sound.over r.come.sound.names compiled.plans compiled.of_rules compiled.few compiled.is_plan compiled.stands compiled.free
+          r.firsts r.begun.starts r.begun.separate r.begun.aside way.3 r.come.pairs).1
+
+  -- so many interactions were made
+  all_counted : interactions ≡ e.machine.interactions → interactions ≡ length all_fired
+  all_counted same =
+      let counted = e.rounded.come.counted in
+      let as_many = length_permutation e.rounded.come.fired all_fired moved in
+      omega (arith, same, counted, as_many)
+
+  module _ (same : interactions ≡ e.machine.interactions) (law : PartLaw) where
     of_taken : rounds ≡ length made → AreOfRounds rs s.config rounds end interactions by_rule
     of_taken taken =
-        let come = e.rounded.come in
-        let ends = e.rounded.ends in
-        let links = links_within come.plans.arities e.given s.config come.plan come.operands come.compiled.stands in
-        let first = e.rounded.firsts.few in
-        let next = next_within come.plans e.rounded.first e.rounded.pairs rs s.config left (omega (arith, links, first)) made ends.last ends.over ends.between in
-        let many = length-map ends.since.fired (rule_number numbers) in
-        let few = ends.few in
-        let counted = come.counted in
-        let as_many = length_permutation come.fired all_fired moved in
+        let next = part_of law in
         subst (λ (n : ℕ). AreOfRounds rs s.config n end interactions by_rule) (sym taken) (record {
           since = since;
-          all = omega (arith, same, counted, as_many);
-          counts = counts_moved (length rs) come.fired all_fired by_rule moved come.counts;
-          few = omega (arith, many, few, next);
-          whole = λ either. ap (λ (l : List ℕ). map (rule_number numbers) l) (ends.whole either);
+          all = all_counted same;
+          counts = counts_moved (length rs) e.rounded.come.fired all_fired by_rule moved e.rounded.come.counts;
+          rest = next.0;
+          part = next.1;
+          whole = λ either. ap (λ (l : List ℕ). map (rule_number numbers) l) (e.rounded.ends.whole either);
         })
 
     of_none : rounds ≡ 0 → interactions ≡ 0 → AreOfRounds rs s.config rounds end interactions by_rule
@@ -159,7 +181,8 @@ module _ (s : SystemParts) (most rounds : ℕ) (answer : Configuration) (end : E
           since = [];
           all = still;
           counts = subst (λ (l : List ℕ). AreCounts (length rs) l by_rule) fired e.rounded.come.counts;
-          few = omega arith;
+          rest = rules_of rs s.config.equations;
+          part = IsPermutation-refl (rules_of rs s.config.equations);
           whole = λ either. refl;
         })
 
@@ -170,13 +193,33 @@ module _ (s : SystemParts) (most rounds : ℕ) (answer : Configuration) (end : E
         by (inl is) = of_none (e.count.none is) (still_none end interactions told is)
         by (inr isnt) = of_taken (e.count.all isnt ∙ e.rounded.ends.count)
 
-  pub early_so : (enough : ℕ) → GoOn (Some enough) e.taken e.rounded.ends.told → (n : ℕ) → 1 ≤ n → n < rounds → length (rules_in rs n s.config) < enough
-  early_so enough early n one low = by (still_or_not end interactions told)
-    where
-      by : (stands_still end interactions told ≡ true) ⊎ (stands_still end interactions told ≡ false) → length (rules_in rs n s.config) < enough
-      by (inl is) = let none = e.count.none is in absurd (omega (arith, none, low))
-      by (inr isnt) =
-          let all = e.count.all isnt in
-          let many = e.rounded.ends.count in
-          early_rounds e.rounded.come.plans e.rounded.first e.rounded.pairs rs numbers s.config enough e.taken e.rounded.begun.none made e.rounded.ends.told e.rounded.ends.are_told e.rounded.rules
-          early n one (omega (arith, low, all, many)) (omega (arith, low, all))
+  module _ (enough : ℕ) (early : GoOn (Some enough) e.taken end (length e.rounded.ends.since.fired) e.rounded.ends.told) where
+    early_taken : rounds ≡ e.taken → (n : ℕ) → 1 ≤ n → n ≤ rounds → (n < e.taken) ⊎ IsBrokenOff end (length e.rounded.ends.since.fired) → length (rules_in rs n s.config) < enough
+    early_taken all n one low later =
+        let many = e.rounded.ends.count in
+        early_rounds e.rounded.come.plans e.rounded.first e.rounded.pairs rs numbers s.config enough e.taken end (length e.rounded.ends.since.fired) e.rounded.begun.none made e.rounded.ends.told
+        e.rounded.ends.are_told e.rounded.rules early n one (omega (arith, low, all, many)) later
+
+    -- none are, or as many as were taken
+    taken_or_none : (rounds ≡ 0) ⊎ (rounds ≡ e.taken)
+    taken_or_none = by (still_or_not end interactions told)
+      where
+        by : (stands_still end interactions told ≡ true) ⊎ (stands_still end interactions told ≡ false) → (rounds ≡ 0) ⊎ (rounds ≡ e.taken)
+        by (inl is) = inl (e.count.none is)
+        by (inr isnt) = inr (e.count.all isnt)
+
+    pub early_so : (n : ℕ) → 1 ≤ n → n < rounds → length (rules_in rs n s.config) < enough
+    early_so n one low =
+        ⊎_elim (λ none. absurd (omega (arith, none, low))) (λ all. early_taken all n one (omega (arith, low)) (inl (omega (arith, all, low)))) taken_or_none
+
+    pub begun_so : interactions ≡ e.machine.interactions → 1 ≤ rounds → IsBrokenOff end (interactions - length (rules_in rs rounds s.config)) → length (rules_in rs rounds s.config) < enough
+    begun_so same one broken = ⊎_elim
+        (λ none. absurd (omega (arith, none, one)))
+        (λ all.
+        let over : length (rules_in rs rounds s.config) ≡ length (rules_in rs (length made) s.config) = ap (λ (n : ℕ). length (rules_in rs n s.config)) (all ∙ e.rounded.ends.count) in
+        let long = length-append (rules_in rs (length made) s.config) since in
+        let mapped = length-map e.rounded.ends.since.fired (rule_number numbers) in
+        let counted = all_counted same in
+        let many : interactions - length (rules_in rs rounds s.config) ≡ length e.rounded.ends.since.fired = omega (arith, over, long, mapped, counted) in
+        early_taken all rounds one (omega arith) (inr (subst (IsBrokenOff end) many broken)))
+        taken_or_none

@@ -1,5 +1,5 @@
 -- Lemmas: rounds of a machine, one after the other.
-use Rattle.std.proofs.Common.{◌≡◌, ◌⊎◌, inl, inr, ℕ, zero, suc, ◌+◌, ◌<◌, ◌≤◌, Option, None, Some, List, [], ◌∷◌, ◌++◌, length, take, refl, sym, ap, ◌∙◌, arith, subst}
+use Rattle.std.proofs.Common.{◌≡◌, ◌⊎◌, ⊎_elim, inl, inr, ℕ, zero, suc, ◌+◌, ◌<◌, ◌≤◌, Option, None, Some, List, [], ◌∷◌, ◌++◌, length, take, refl, sym, ap, ◌∙◌, arith, subst}
 use Rattle.std.specs.List.{AllByRecursion, concat}
 use Rattle.std.specs.Prelude.{Contains}
 use Rattle.std.proofs.lemmas.List.{append-nil, length-append}
@@ -8,16 +8,16 @@ use Rattle.std.proofs.lemmas.List.Sorted.{Contains-permutation, length_permutati
 use Rattle.ic_arena.specs.Piece.{Piece}
 use Rattle.ic_machine.specs.declared.equation.Equation.{Equation}
 use Rattle.ic_machine.specs.declared.generation.Generation.{Generation}
-use Rattle.ic_machine.specs.Generations.{Advances, Takes, beside, ended, fires, later, present, stays}
+use Rattle.ic_machine.specs.Generations.{Advances, IsWithin, Takes, beside, ended, fires, later, present, stays}
 use Rattle.ic_machine.specs.Net.{Net, HasNext, IsActive, IsStuck, equated_of}
 use Rattle.ic_machine.specs.Plan.{Plans}
 use Rattle.ic_machine.specs.Runs.{Ran}
 use Rattle.ic_machine.specs.lemmas.FiringKeeps.{all_append}
 use Rattle.ic_machine.specs.lemmas.RunsOn.{ran_none, ran_none-fired, ran_on, ran_on-fired}
 use Rattle.ic_in_place.specs.declared.running.End.{End}
-use Rattle.ic_in_place.specs.declared.running.End.TheVariants.{Quiet, Steps}
+use Rattle.ic_in_place.specs.declared.running.End.TheVariants.{Quiet, Steps, Nodes, Limit, Memory}
 use Rattle.ic_meaning.specs.InPlace.{AreRounds, begun, goes_on, next_round}
-use Rattle.ic_in_place.specs.Rounds.{AreOver, AreTold, EndsAfter, FireAfterFirst, GoOn, next_pairs, none_told, none_yet, one_told, some}
+use Rattle.ic_in_place.specs.Rounds.{AreOver, AreTold, EndsAfter, FireAfterFirst, GoOn, IsBrokenOff, none_told, none_yet, one_told, some}
 use Rattle.ic_in_place.specs.Told.{RoundOver, IsBetween}
 use Rattle.ic_in_place.specs.inner.Rounds.{AreEarly, AreSomeActive, RoundBegins}
 
@@ -50,18 +50,6 @@ takes_active p _ _ _ _ _ e (stays d now es left is xs before ys order t stuck r)
     takes_active p es left is (equated_of d ∷ before) ys e r none
     (among_others p es d e active stuck (Contains-permutation now (d ∷ es) e order there)) active
 
--- no more pairs fire than are taken
-takes_few : (p : Plans) (now left : List Equation) (is : List ℕ) (xs ys : List Piece) → Takes p now left is xs ys → length is ≤ length now
-takes_few p _ _ _ _ _ (ended now left xs ys order t) = omega arith
-takes_few p _ _ _ _ _ (fires d now es left i is xs before after ys order t f r) =
-    let rest = takes_few p es left is after ys r in
-    let many = length_permutation now (d ∷ es) order in
-    omega (arith, rest, many)
-takes_few p _ _ _ _ _ (stays d now es left is xs before ys order t stuck r) =
-    let rest = takes_few p es left is (equated_of d ∷ before) ys r in
-    let many = length_permutation now (d ∷ es) order in
-    omega (arith, rest, many)
-
 -- ---- what fired
 
 concat_next : (ms : List (List ℕ)) (fired : List ℕ) → concat (ms ++ fired ∷ []) ≡ concat ms ++ fired
@@ -74,29 +62,6 @@ fired_since p pairs rounds g first old new b ran =
     ran_on-fired p first old new b.ran ran ∙ ap (λ (l : List ℕ). l ++ ran.fired) b.fired
 
 -- ---- one round more
-
-taken_few : {X : Type 0} (k : ℕ) (xs : List X) → length (take k xs) ≤ k
-taken_few zero xs = omega arith
-taken_few (suc k) [] = omega arith
-taken_few (suc k) (x ∷ xs) = let rest = taken_few k xs in omega (arith, rest)
-
-advanced_few : (p : Plans) (pairs rounds : ℕ) (g h : Generation) (first old new : Net) → (b : RoundBegins p pairs rounds g first old) → (a : Advances p g h old new)
-    → length a.ran.fired ≤ next_pairs pairs b.made old
-advanced_few p pairs rounds g h first old new b a =
-    let here : length a.ran.fired ≤ length (take g.end old.pending) =
-    takes_few p (present g old.pending) (present h new.pending) a.ran.fired (beside (later g old.pending) old) (beside (later h new.pending) new) a.takes in
-    let taken = taken_few g.end old.pending in
-    let all = b.takes in
-    omega (arith, here, taken, all)
-
--- after a round all that is pending is taken
-all_next : (pairs : ℕ) (made : List (List ℕ)) (fired : List ℕ) (m : Net) → next_pairs pairs (made ++ fired ∷ []) m ≡ length m.pending
-all_next pairs [] fired m = refl
-all_next pairs (f ∷ made) fired m = refl
-
-none_since : (fired : List ℕ) (n : ℕ) → fired ≡ [] → length fired ≤ n
-none_since [] n same = omega arith
-none_since (i ∷ is) n same = absurd (cc same)
 
 advanced_active : (p : Plans) (g h : Generation) (old new : Net) (a : Advances p g h old new) → h.end ≡ 0
     → AreSomeActive p (present g old.pending) → 1 ≤ length a.ran.fired
@@ -148,21 +113,31 @@ pub none_early : (enough : Option ℕ) → AreEarly enough []
 none_early None = tt
 none_early (Some n) = tt
 
-all_later : (n rounds : ℕ) (told : List RoundOver) → AllByRecursion (λ o. o.net.interactions < n) told → AllByRecursion (λ o. o.round < rounds → o.net.interactions < n) told
-all_later n rounds [] each = tt
-all_later n rounds (o ∷ told) each = ((λ low. each.0), all_later n rounds told each.1)
+all_later : (n rounds : ℕ) (end : End) (since : ℕ) (told : List RoundOver) → AllByRecursion (λ o. o.net.interactions < n) told
+    → AllByRecursion (λ o. (o.round < rounds) ⊎ IsBrokenOff end since → o.net.interactions < n) told
+all_later n rounds end since [] each = tt
+all_later n rounds end since (o ∷ told) each = ((λ later. each.0), all_later n rounds end since told each.1)
 
 -- of rounds that were all followed by another
-pub early_go_on : (enough : Option ℕ) (rounds : ℕ) (told : List RoundOver) → AreEarly enough told → GoOn enough rounds told
-early_go_on None rounds told each = tt
-early_go_on (Some n) rounds told each = all_later n rounds told each
+pub early_go_on : (enough : Option ℕ) (rounds : ℕ) (end : End) (since : ℕ) (told : List RoundOver) → AreEarly enough told → GoOn enough rounds end since told
+early_go_on None rounds end since told each = tt
+early_go_on (Some n) rounds end since told each = all_later n rounds end since told each
 
--- and of the last one, too
-pub last_goes_on : (enough : Option ℕ) (rounds taken : ℕ) (told : List RoundOver) (fired : ℕ) (m : Net) → AreEarly enough told → taken ≡ rounds + 1 → GoOn enough taken (told_next told rounds fired m)
-last_goes_on None rounds taken told fired m each same = tt
-last_goes_on (Some n) rounds taken told fired m each same =
-    all_append (λ (o : RoundOver). o.round < taken → o.net.interactions < n) told (record { round = rounds + 1; pairs = fired; net = m } ∷ []) (all_later n taken told each)
-    ((λ low. absurd (omega (arith, low, same))), tt)
+-- and of the last one, too, after which none was begun
+pub last_goes_on : (enough : Option ℕ) (rounds taken : ℕ) (end : End) (since : ℕ) (told : List RoundOver) (fired : ℕ) (m : Net) → AreEarly enough told → taken ≡ rounds + 1 → ¬ IsBrokenOff end since
+    → GoOn enough taken end since (told_next told rounds fired m)
+last_goes_on None rounds taken end since told fired m each same whole = tt
+last_goes_on (Some n) rounds taken end since told fired m each same whole =
+    all_append (λ (o : RoundOver). (o.round < taken) ⊎ IsBrokenOff end since → o.net.interactions < n) told (record { round = rounds + 1; pairs = fired; net = m } ∷ [])
+    (all_later n taken end since told each) (⊎_elim (λ low. absurd (omega (arith, low, same))) (λ broken. absurd (whole broken)), tt)
+
+-- where no pair has fired since, only a bound or a limit breaks a round off
+pub is_whole : (end : End) (since : ℕ) → since ≡ 0 → ¬ (end ≡ Nodes) → ¬ (end ≡ Limit) → ¬ IsBrokenOff end since
+is_whole Quiet since none nodes limit broken = broken
+is_whole Steps since none nodes limit broken = broken
+is_whole Nodes since none nodes limit broken = nodes refl
+is_whole Limit since none nodes limit broken = limit refl
+is_whole Memory since none nodes limit broken = omega (arith, none, broken)
 
 pub early_next : (enough : Option ℕ) (rounds : ℕ) (told : List RoundOver) (fired : ℕ) (m : Net) → AreEarly enough told → ((n : ℕ) → enough ≡ Some n → m.interactions < n)
     → AreEarly enough (told_next told rounds fired m)
@@ -207,8 +182,6 @@ first_begins p pairs m few P holds = (
     are_told = none_told;
     active = inl refl;
     within = few;
-    takes = refl;
-    between = λ one. absurd (omega (arith, one));
     ran = ran_none p m;
     fired = ran_none-fired p m;
   },
@@ -232,8 +205,6 @@ next_begins p pairs rounds g h first old new b a over between active P holds =
       are_told = done.are_told;
       active = inr (subst (AreSomeActive p) (sym (all_taken new.pending)) active);
       within = omega arith;
-      takes = sym (all_next pairs b.made a.ran.fired new);
-      between = λ one. between;
       ran = ran_on p first old new b.ran a.ran;
       fired = fired_since p pairs rounds g first old new b a.ran ∙ sym (concat_next b.made a.ran.fired);
     } in
@@ -247,9 +218,9 @@ neither end quiet steps (inr is) = absurd (steps is)
 
 -- Within a round.
 pub ends_within : (p : Plans) (pairs most rounds : ℕ) (end : End) (g h : Generation) (first old new : Net)
-    → (b : RoundBegins p pairs rounds g first old) → Advances p g h old new → 0 < h.end → rounds ≤ most → ¬ (end ≡ Quiet) → ¬ (end ≡ Steps)
-    → (P : List RoundOver → Type 0) → P b.told → (ends : EndsAfter p pairs most rounds end first new) × P ends.told
-ends_within p pairs most rounds end g h first old new b a left few quiet steps P holds = (
+    → (b : RoundBegins p pairs rounds g first old) → Advances p g h old new → 0 < h.end → IsWithin h new.pending → rounds ≤ most → ¬ (end ≡ Quiet) → ¬ (end ≡ Steps)
+    → (P : ℕ → List RoundOver → Type 0) → ((n : ℕ) → P n b.told) → (ends : EndsAfter p pairs most rounds end first new) × P (length ends.since.fired) ends.told
+ends_within p pairs most rounds end g h first old new b a left inside few quiet steps P holds = (
   record {
     made = b.made;
     last = old;
@@ -262,23 +233,21 @@ ends_within p pairs most rounds end g h first old new b a left few quiet steps P
     ran = ran_on p first old new b.ran a.ran;
     since = a.ran;
     all_fired = fired_since p pairs rounds g first old new b a.ran;
-    under_way = inr (h, omega (arith, left), goes_on b.made [] g h old new b.are a);
-    few = advanced_few p pairs rounds g h first old new b a;
-    between = b.between;
+    under_way = inr (h, omega (arith, left), inside, goes_on b.made [] g h old new b.are a);
     whole = neither end quiet steps;
     quiet = λ is. absurd (quiet is);
     some = λ is. absurd (quiet is);
     all = λ is. absurd (steps is);
     more = λ is. absurd (steps is);
   },
-  holds,
+  holds (length a.ran.fired),
 )
 
 -- As a round is over, and no pair is left that can fire.
 pub ends_quiet : (p : Plans) (pairs most rounds : ℕ) (g h : Generation) (first old new : Net)
     → (b : RoundBegins p pairs rounds g first old) → (a : Advances p g h old new) → h.end ≡ 0 → rounds + 1 ≤ most
-    → IsBetween new → AllByRecursion (IsStuck p) new.pending → (P : List RoundOver → Type 0) → P (told_next b.told (length b.made) (length a.ran.fired) new)
-    → (ends : EndsAfter p pairs most (rounds + 1) Quiet first new) × P ends.told
+    → IsBetween new → AllByRecursion (IsStuck p) new.pending → (P : ℕ → List RoundOver → Type 0) → ((n : ℕ) → P n (told_next b.told (length b.made) (length a.ran.fired) new))
+    → (ends : EndsAfter p pairs most (rounds + 1) Quiet first new) × P (length ends.since.fired) ends.told
 ends_quiet p pairs most rounds g h first old new b a over few between stuck P holds =
     let done = is_over p pairs rounds g h first old new b a over between in (
       record {
@@ -297,21 +266,20 @@ ends_quiet p pairs most rounds g h first old new b a over few between stuck P ho
             ∙ (sym (append-nil (concat (b.made ++ a.ran.fired ∷ [])))
             ∙ ap (λ (l : List ℕ). concat (b.made ++ a.ran.fired ∷ []) ++ l) (sym (ran_none-fired p new))));
         under_way = inl (ran_none-fired p new);
-        few = none_since (ran_none p new).fired (next_pairs pairs (b.made ++ a.ran.fired ∷ []) new) (ran_none-fired p new);
-        between = λ one. between;
         whole = λ is. ran_none-fired p new;
         quiet = λ is. stuck;
         some = λ is one. omega arith;
         all = λ is. absurd (cc is);
         more = λ is. absurd (cc is);
       },
-      holds,
+      holds (length (ran_none p new).fired),
     )
 
 -- As all rounds are over.
 pub ends_all : (p : Plans) (pairs most : ℕ) (end : End) (g : Generation) (first last new : Net) → (b : RoundBegins p pairs most g first last)
     → (ran : Ran p last new) → ran.fired ≡ [] → (end ≡ Quiet → AllByRecursion (IsStuck p) new.pending)
-    → (end ≡ Steps → HasNext p new.pending) → (P : List RoundOver → Type 0) → P b.told → (ends : EndsAfter p pairs most most end first new) × P ends.told
+    → (end ≡ Steps → HasNext p new.pending) → (P : ℕ → List RoundOver → Type 0) → ((n : ℕ) → n ≡ 0 → P n b.told)
+    → (ends : EndsAfter p pairs most most end first new) × P (length ends.since.fired) ends.told
 ends_all p pairs most end g first last new b ran none quiet more P holds = (
   record {
     made = b.made;
@@ -326,13 +294,11 @@ ends_all p pairs most end g first last new b ran none quiet more P holds = (
     since = ran;
     all_fired = fired_since p pairs most g first last new b ran;
     under_way = inl none;
-    few = none_since ran.fired (next_pairs pairs b.made last) none;
-    between = b.between;
     whole = λ is. none;
     quiet = quiet;
     some = λ is one. one;
     all = λ is. refl;
     more = more;
   },
-  holds,
+  holds (length ran.fired) (ap length none),
 )

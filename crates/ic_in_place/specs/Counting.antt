@@ -1,5 +1,5 @@
 -- How often each rule fired, and how many steps put a term for a name.
-use Rattle.std.specs.Prelude.{◌≡◌, ◌⊎◌, ℕ, zero, suc, ◌+◌, ◌^◌, ◌<◌, ◌≤◌, ◌==◌, List, [], ◌∷◌, ◌++◌, Option, None, SomeIff, length, map, count_by, slice_index_or}
+use Rattle.std.specs.Prelude.{◌≡◌, ◌⊎◌, ℕ, zero, suc, ◌+◌, ◌^◌, ◌<◌, ◌==◌, List, [], ◌∷◌, ◌++◌, Option, None, SomeIff, length, map, count_by, slice_index_or, IsPermutation}
 use Rattle.ic_term.specs.Configuration.{Configuration}
 use Rattle.ic_rules.specs.Rule.{Rule}
 use Rattle.ic_round.specs.Quiet.{IsQuiet}
@@ -19,14 +19,15 @@ abbrev pub rules_in : List Rule → (rounds : ℕ) → Configuration → List �
 rules_in rs zero c = []
 rules_in rs (suc n) c = rules_in rs n c ++ rules_of rs (iterate rs n c).equations
 
--- So many interactions were made, so many of each rule, where so many rounds are over: those of these rounds, and some since, no
--- more than there are equations then. Between two rounds there are none since.
+-- So many interactions were made, so many of each rule, where so many rounds are over: those of these rounds, and some since. These
+-- are a part of the next round: with the rest of it they are what it fires. Between two rounds there are none since.
 pub record AreOfRounds (rs : List Rule) (c : Configuration) (rounds : ℕ) (end : End)
     (interactions : ℕ) (by_rule : List ℕ) : Type 0 where
   pub since : List ℕ
   pub all : interactions ≡ length (rules_in rs rounds c ++ since)
   pub counts : AreCounts (length rs) (rules_in rs rounds c ++ since) by_rule
-  pub few : length since ≤ length (iterate rs rounds c).equations
+  pub rest : List ℕ
+  pub part : IsPermutation (since ++ rest) (rules_of rs (iterate rs rounds c).equations)
   pub whole : (end ≡ Quiet) ⊎ (end ≡ Steps) → since ≡ []
 
 -- how many of these steps put a term for a name

@@ -1,5 +1,5 @@
 -- Rounds of a machine, and of a text.
-use Rattle.std.specs.Prelude.{◌≡◌, ◌⊎◌, ℕ, ◌+◌, ◌<◌, ◌≤◌, ◌==◌, Bool, true, false, ◌&&◌, List, [], ◌∷◌, ◌++◌, Option, None, Some, Ok, Err, length, map}
+use Rattle.std.specs.Prelude.{◌≡◌, ◌⊎◌, ℕ, ◌+◌, ◌-◌, ◌<◌, ◌≤◌, ◌==◌, Bool, true, false, ◌&&◌, List, [], ◌∷◌, ◌++◌, Option, None, Some, Ok, Err, length, map}
 use Rattle.std.specs.Io.KnownBytes.{Appends}
 use Rattle.std.specs.List.{AllByRecursion, concat}
 use Rattle.ic_rules.specs.System.{SystemParts}
@@ -11,6 +11,7 @@ use Rattle.ic_text.specs.SystemText.{ReadsSystemWithin}
 use Rattle.ic_text.specs.declared.limits.Limits.{Limits}
 use Rattle.ic_streams.specs.Streams.{Answering, answering}
 use Rattle.ic_machine.specs.declared.generation.Generation.{Generation}
+use Rattle.ic_machine.specs.Generations.{IsWithin}
 use Rattle.ic_machine.specs.Net.{Net, HasNext, IsStuck}
 use Rattle.ic_machine.specs.Plan.{Plans}
 use Rattle.ic_machine.specs.Runs.{Ran}
@@ -50,11 +51,6 @@ abbrev pub FireAfterFirst : List (List ℕ) → Type 0
 FireAfterFirst [] = Unit {0}
 FireAfterFirst (first ∷ others) = AllByRecursion (λ fired. 1 ≤ length fired) others
 
--- how many pairs the next round takes, where some are over: in the first one so many, and then all that are pending
-abbrev pub next_pairs : (pairs : ℕ) → (made : List (List ℕ)) → Net → ℕ
-next_pairs pairs [] m = pairs
-next_pairs pairs (fired ∷ made) m = length m.pending
-
 -- So many rounds are over, at most as many as may be made, and they are told. At a quiet end no pair is left that could fire. Where as many were
 -- made as may be, the last pair that is left can fire. In both cases no pair has fired since. Where some have, they are of the
 -- next round, which is under way: it has a pair that isn't taken yet. What fired is what fired in these rounds, and since.
@@ -72,9 +68,8 @@ pub record EndsAfter (p : Plans) (pairs most rounds : ℕ) (end : End) (first ne
   pub all_fired : ran.fired ≡ concat made ++ since.fired
   pub whole : (end ≡ Quiet) ⊎ (end ≡ Steps) → since.fired ≡ []
   pub under_way : (since.fired ≡ [])
-      ⊎ ((g : Generation) × (1 ≤ g.end) × AreRounds p first pairs made since.fired g new)
-  pub few : length since.fired ≤ next_pairs pairs made last
-  pub between : 1 ≤ length made → IsBetween last
+      ⊎ ((g : Generation) × (1 ≤ g.end) × IsWithin g new.pending
+      × AreRounds p first pairs made since.fired g new)
   pub quiet : end ≡ Quiet → AllByRecursion (IsStuck p) new.pending
   pub some : end ≡ Quiet → 1 ≤ most → 1 ≤ rounds
   pub all : end ≡ Steps → rounds ≡ most
@@ -85,11 +80,21 @@ abbrev pub MayEnd : (rounds : ℕ) → (enough : Option ℕ) → (most interacti
 MayEnd rounds enough most interactions = (most ≡ rounds)
     ⊎ ((1 ≤ most) × (most ≤ rounds) × ((n : ℕ) × (enough ≡ Some n) × (n ≤ interactions)))
 
--- Each round that is told and isn't the last was followed by another, since fewer interactions were made by then than are enough.
-abbrev pub GoOn : (enough : Option ℕ) → (rounds : ℕ) → List RoundOver → Type 0
-GoOn None rounds told = Unit {0}
-GoOn (Some n) rounds told =
-    AllByRecursion (λ o. o.round < rounds → o.net.interactions < n) told
+-- A round was broken off by this end, where so many pairs have fired since the one before it was over. As memory runs out it may be
+-- that none was begun.
+abbrev pub IsBrokenOff : End → (since : ℕ) → Type 0
+IsBrokenOff Quiet since = ⊥
+IsBrokenOff Steps since = ⊥
+IsBrokenOff Nodes since = Unit {0}
+IsBrokenOff Limit since = Unit {0}
+IsBrokenOff Memory since = 1 ≤ since
+
+-- Each round that is told was followed by another only if fewer interactions were made by then than are enough, be it one that was
+-- broken off.
+abbrev pub GoOn : (enough : Option ℕ) → (rounds : ℕ) → End → (since : ℕ) → List RoundOver → Type 0
+GoOn None rounds end since told = Unit {0}
+GoOn (Some n) rounds end since told = AllByRecursion
+    (λ o. (o.round < rounds) ⊎ IsBrokenOff end since → o.net.interactions < n) told
 
 -- A machine began with the configuration of a system, whose equations of two agents are pending first. So many rounds of it are
 -- over, at most as many as may be made, and each has fired as many pairs by each rule as the round does. If none has fired since,
@@ -149,7 +154,7 @@ pub record MakesRounds (s : SystemParts) (most rounds : ℕ) (end : End) (answer
       → SameButNext answer (iterate s.rules.rules rounds s.config)
 
 -- A system was reduced by so many rounds to what is told. As it ends at `Steps`, as many were made as may be, or enough
--- interactions were. Each round but the first began before enough were.
+-- interactions were. Each round but the first began before enough were, also one that was broken off.
 pub record IsRoundedTo (s : SystemParts) (most enough rounds : ℕ) (reduced : Reduced) : Type 0 where
   pub bounds : Bounds
   pub answer : Configuration
@@ -159,6 +164,9 @@ pub record IsRoundedTo (s : SystemParts) (most enough rounds : ℕ) (reduced : R
   pub made : MakesRounds s most rounds reduced.end answer
   pub all : reduced.end ≡ Steps → (rounds ≡ most) ⊎ (enough ≤ reduced.interactions)
   pub early : (n : ℕ) → 1 ≤ n → n < rounds → length (rules_in s.rules.rules n s.config) < enough
+  pub begun : 1 ≤ rounds → IsBrokenOff reduced.end
+      (reduced.interactions - length (rules_in s.rules.rules rounds s.config))
+      → length (rules_in s.rules.rules rounds s.config) < enough
   pub fired : AreOfRounds s.rules.rules s.config rounds reduced.end reduced.interactions
       reduced.by_rule.items
   pub name_steps : TellsNameSteps s.rules.rules s.config reduced.interactions

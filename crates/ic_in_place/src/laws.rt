@@ -359,10 +359,15 @@ pub fn what_is_told_of_rounds()
         (reached : Rounded) → (is : EndsByRounds limits most asked input reached line)
         → AreOfRounds is.system.rules.rules is.system.config reached.rounds reached.outcome.end
         reached.outcome.interactions reached.outcome.by_rule.items }
+    // Where some pairs have fired since, one is pending that the round they are of hasn't taken yet.
+    ensures under_way { (limits : Limits) (most : ℕ) (asked : Asked) (input line : List ℕ)
+        (reached : Rounded) → (is : EndsByRounds limits most asked input reached line)
+        → (is.rounded.ends.since.fired ≡ []) ⊎ (1 ≤ length is.machine.pending) }
 {
     ic_reaching::laws::what_is_reached_is_one_net();
     ic_reaching::laws::what_is_reached_goes_on();
     ic_meaning::laws::rounds_in_place_are_rounds();
+    ic_meaning::laws::what_fires_in_a_round_is_of_it();
     ic_meaning::laws::equations_left_are_all_but_circles();
 }
 

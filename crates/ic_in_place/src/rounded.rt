@@ -57,6 +57,7 @@ pub fn reduce_by_rounds_stream<V: Watch, R: Read, W: Write>(
         (TakesTextWithin limits (R.remaining reader.old) (R.remaining reader.new)) }
     ensures taken_at_fault { IfErr result
         (λ fault. TakesAtWithin limits fault (R.remaining reader.old) (R.remaining reader.new)) }
+    ensures quiet { OnOk result (told.new.items ≡ told.old.items) }
 {
     let text = read_text_within(alloc, limits, reader)?;
     let mut rows = NoRows;
@@ -89,6 +90,7 @@ pub fn reduce_by_rounds<V: Watch, S: Rows<W>, W: Write>(
         × (fault ≢ StreamFault.Write) × (fault ≢ StreamFault.Read)) ⊎ S.fails fault) }
     ensures silent { IfErr result (λ fault. ¬ S.fails fault → fault ≢ StreamFault.Memory
         → Keeps (W.contents writer.old) (W.contents writer.new)) }
+    ensures quiet { OnOk result (told.new.items ≡ told.old.items) }
 {
     let system = match find_wide_system(alloc, limits, text) {
         Ok(found) => found,
@@ -138,7 +140,7 @@ fn read_rounded(
     ensures { (rounds enough most : ℕ)
         → MayEnd rounds (Some enough) most stopped.machine.interactions
         → (rounded : HasRounded system most taken stopped.given.items stopped.by_rule.items
-        stopped.machine stopped.end) → GoOn (Some enough) taken rounded.ends.told
+        stopped.machine stopped.end) → GoOn (Some enough) taken stopped.end (length rounded.ends.since.fired) rounded.ends.told
         → IfOk result (λ made. IsRoundedTo system rounds enough made.1 made.0) }
 {
     ic_reaching::laws::one_net_is_an_equivalence();
@@ -149,8 +151,7 @@ fn read_rounded(
     ic_reaching::laws::what_is_reached_quiet_is_the_end_of_every_order();
     ic_confluence::laws::same_is_an_equivalence();
     ic_confluence::laws::same_nets_take_the_same_steps();
-    ic_meaning::laws::rounds_in_place_are_rounds();
-    ic_meaning::laws::equations_left_are_all_but_circles();
+    ic_meaning::laws::what_fires_in_a_round_is_of_it();
     crate::laws::name_steps_are_those_of_every_order();
     crate::laws::what_is_put_together_has_no_name_step();
     let reduced = read_stopped(alloc, system, stopped)?;
@@ -198,7 +199,8 @@ fn round_system<V: Watch, S: Rows<W>, W: Write>(
         × MayEnd bounds.rounds enough most made.0.machine.interactions
         × (rounded : HasRounded system.now most made.1
         made.0.given.items made.0.by_rule.items made.0.machine made.0.end)
-        × GoOn enough made.1 rounded.ends.told × S.tells system.now rounded.come.rule_numbers rows.old rows.new
+        × GoOn enough made.1 made.0.end (length rounded.ends.since.fired) rounded.ends.told
+        × S.tells system.now rounded.come.rule_numbers rows.old rows.new
         (W.contents writer.old) (W.contents writer.new) rounded.ends.told) }
     ensures untold { IfErr result (λ fault. (fault ≡ StreamFault.Memory) ⊎ S.fails fault) }
 {
@@ -228,7 +230,8 @@ fn round_compiled<V: Watch, S: Rows<W>, W: Write>(
         × MayEnd bounds.rounds enough most made.0.machine.interactions
         × (rounded : HasRounded system.now most made.1
         made.0.given.items made.0.by_rule.items made.0.machine made.0.end)
-        × GoOn enough made.1 rounded.ends.told × S.tells system.now rounded.come.rule_numbers rows.old rows.new
+        × GoOn enough made.1 made.0.end (length rounded.ends.since.fired) rounded.ends.told
+        × S.tells system.now rounded.come.rule_numbers rows.old rows.new
         (W.contents writer.old) (W.contents writer.new) rounded.ends.told) }
     ensures untold { IfErr result (λ fault. (fault ≡ StreamFault.Memory) ⊎ S.fails fault) }
 {

@@ -131,7 +131,7 @@ pub fn run_by_rounds<V: Watch, S: Rows<W>, W: Write>(
     ensures ended { IfOk result (λ ended.
         (most : ℕ) × MayEnd rounds enough most machine.new.interactions
         × (ends : EndsAfter program.now pairs most ended.1 ended.0 machine.old machine.new)
-        × GoOn enough ended.1 ends.told × ((s : SystemParts) (numbers : List ℕ) (first : S) (before : Option (List ℕ))
+        × GoOn enough ended.1 ended.0 (length ends.since.fired) ends.told × ((s : SystemParts) (numbers : List ℕ) (first : S) (before : Option (List ℕ))
         → S.tells s numbers first rows.old before (W.contents writer.old) []
         → S.tells s numbers first rows.new before (W.contents writer.new) ends.told)) }
     ensures untold { IfErr result (λ fault. S.fails fault) }
@@ -180,6 +180,7 @@ fn end_of_all(machine: &mut Machine, program: &Program) -> End
     ensures quiet { result ≡ End.Quiet
         → AllByRecursion (IsStuck program.now) machine.new.pending }
     ensures more { result ≡ End.Steps → HasNext program.now machine.new.pending }
+    ensures before { (result ≢ End.Nodes) × (result ≢ End.Limit) }
 {
     let _interactions = machine.interactions();
     match run_piece(machine, program, 0) {
@@ -205,6 +206,7 @@ fn take_all<V: Watch>(
     ensures advances { Advances program.now generation.old generation.new machine.old machine.new }
     ensures over { IfNone result (generation.new.end ≡ 0) }
     ensures left { IfSome result (λ end. 0 < generation.new.end) }
+    ensures within { IsWithin generation.new machine.new.pending }
     ensures broken { IfSome result (λ end. (end ≢ End.Quiet) × (end ≢ End.Steps)) }
     ensures looks { machine.new.interactions ≤ looks.new.next }
     ensures room { IfNone result (looks.new.next < MOST) }

@@ -3,3 +3,4 @@ pub mod Left
 pub mod Traced
 pub mod RowsOf
 pub mod GoingOn
+mod Soon

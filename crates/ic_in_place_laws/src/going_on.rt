@@ -1,6 +1,6 @@
 //! Laws of rounds that are cut between two of them and gone on with.
 
-ghost use Rattle.std.specs.Prelude.{◌≡◌, ◌≢◌, ◌⊎◌, ◌↔◌, ℕ, ◌+◌, ◌≤◌, List, Ok, IsPermutation, IsTrue, length};
+ghost use Rattle.std.specs.Prelude.{◌≡◌, ◌≢◌, ◌⊎◌, ◌↔◌, ℕ, ◌+◌, ◌<◌, ◌≤◌, List, Ok, IsPermutation, IsTrue, length};
 ghost use Rattle.ic_term.specs.Configuration.{Configuration};
 ghost use Rattle.ic_term.specs.Symbol.{is_over};
 ghost use Rattle.ic_rules.specs.RuleSet.{IsRuleSet, Rules};
@@ -14,11 +14,23 @@ ghost use Rattle.ic_reaching.specs.OneNet.{SameButNext};
 ghost use Rattle.ic_streams.specs.Streams.{line_of};
 ghost use Rattle.ic_text.specs.SystemText.{ReadsSystemWithin};
 ghost use Rattle.ic_text.specs.declared.limits.Limits.{Limits};
+ghost use Rattle.ic_in_place.specs.declared.reducing.Reduced.{Reduced};
 ghost use Rattle.ic_in_place.specs.declared.rounded.Rounded.{Rounded};
 ghost use Rattle.ic_in_place.specs.declared.running.End.TheVariants.{Quiet, Steps};
 ghost use Rattle.ic_in_place.specs.declared.stream.Asked.{Asked};
 ghost use Rattle.ic_in_place.specs.declared.stream.Asked.TheVariants.{Nothing};
-ghost use Rattle.ic_in_place.specs.Rounds.{EndsByRounds};
+ghost use Rattle.ic_in_place.specs.Counting.{rules_in};
+ghost use Rattle.ic_in_place.specs.Rounds.{EndsByRounds, IsRoundedTo};
+
+/// Rounds that end as enough interactions are made make few more. All that were made are those of so many rounds, fewer than are
+/// enough, and no more than one round fires after these.
+pub fn rounds_end_soon_after_enough()
+    ensures { (s : SystemParts) (most enough rounds : ℕ) (reduced : Reduced)
+        → IsRoundedTo s most enough rounds reduced → 1 ≤ enough → (n : ℕ) × (n ≤ rounds)
+        × (length (rules_in s.rules.rules n s.config) < enough)
+        × (reduced.interactions ≤ length (rules_in s.rules.rules n s.config)
+        + length (active s.rules.rules (iterate s.rules.rules n s.config))) }
+{}
 
 /// Rounds may be cut as one is over, and gone on with from a configuration that is the same net, wherever fresh names begin. Its
 /// rounds make the nets of the later rounds, by as many pairs of each rule. The line of a text after one round or more is that of

@@ -1,6 +1,6 @@
 //! Laws of what a reduction in place answers and tells.
 
-ghost use Rattle.std.specs.Prelude.{◌≡◌, ◌≢◌, ℕ, List, [], ◌∷◌, false, Option, None, Some, Ok, Err, Contains, IsTrue, length, sum_by};
+ghost use Rattle.std.specs.Prelude.{◌≡◌, ◌≢◌, ◌⊎◌, ◌↔◌, ℕ, List, [], ◌∷◌, false, Option, None, Some, Ok, Err, Contains, IsTrue, length, sum_by};
 ghost use Rattle.std.specs.Io.KnownBytes.{Appends};
 ghost use Rattle.std.specs.Option.{option_map};
 ghost use Rattle.ic_term.specs.Configuration.{Configuration};
@@ -28,9 +28,12 @@ ghost use Rattle.ic_text.specs.declared.fault.TextFault.{TextFault};
 ghost use Rattle.ic_text.specs.declared.fault.TextFault.TheVariants as text;
 ghost use Rattle.ic_text.specs.declared.limits.Limits.{Limits};
 ghost use Rattle.ic_streams.specs.Streams.{line_of};
+ghost use Rattle.ic_streams.specs.declared.fault.StreamFault.{StreamFault};
 ghost use Rattle.ic_streams.specs.declared.fault.StreamFault.TheVariants as stream;
 ghost use Rattle.ic_streams.specs.Stuck.{stuck_text};
+ghost use Rattle.ic_by_rounds.specs.Traces.{IsTraced};
 ghost use Rattle.ic_by_rounds.specs.Tracing.{rows_of};
+ghost use Rattle.ic_by_rounds.specs.declared.tracing.Format.{Format};
 ghost use Rattle.ic_in_place.specs.declared.running.Bounds.{Bounds};
 ghost use Rattle.ic_in_place.specs.declared.running.End.{End};
 ghost use Rattle.ic_in_place.specs.declared.running.End.TheVariants.{Quiet, Steps};
@@ -39,6 +42,8 @@ ghost use Rattle.ic_in_place.specs.declared.stream.Asked.TheVariants.{Nothing};
 ghost use Rattle.ic_in_place.specs.declared.stream.Outcome.{Outcome};
 ghost use Rattle.ic_in_place.specs.Reducing.{IsPutTogether, IsReached};
 ghost use Rattle.ic_in_place.specs.Reductions.{EndsAs, EndsOf, ReducesInPlace, Tells, is_written};
+ghost use Rattle.ic_in_place.specs.Rounds.{AppendsLineOf, ReducesByRounds};
+ghost use Rattle.ic_in_place.specs.declared.rounded.Rounded.{Rounded};
 
 /// What stands in an empty output after a reduction to a quiet end is the line of the net of every order, written of a
 /// configuration which is the same net, and the outcome that was told counts the interactions of every order. At any end, the
@@ -90,6 +95,37 @@ pub fn what_is_a_system_is_not_refused()
         × (¬ ReducesInPlace limits bounds asked input (Err (stream.Round fault))) }
 {
     ic_text::laws::one_system_reading();
+}
+
+/// A text that is read as a system isn't refused by rounds, be they only told. By rounds a text is refused exactly as it is where it
+/// is reduced in any order.
+pub fn rounds_refuse_no_system()
+    ensures taken { (limits : Limits) (most : ℕ) (asked : Asked) (input : List ℕ)
+        (s : SystemParts) (fault : TextFault) → ReadsSystemWithin limits input (Ok s)
+        → ¬ ReducesByRounds limits most asked input (Err (stream.Text fault)) }
+    ensures traced { (limits : Limits) (most : ℕ) (format : Format) (input : List ℕ)
+        (s : SystemParts) (fault : TextFault) (before after : Option (List ℕ))
+        → ReadsSystemWithin limits input (Ok s)
+        → ¬ IsTraced limits most format input (Err (stream.Text fault)) before after }
+    ensures alike { (limits : Limits) (bounds : Bounds) (most : ℕ) (asked : Asked)
+        (input : List ℕ) (fault : StreamFault)
+        → ReducesByRounds limits most asked input (Err fault)
+        ↔ ReducesInPlace limits bounds asked input (Err fault) }
+{
+    what_is_a_system_is_not_refused();
+}
+
+/// What stands in an empty output after rounds, where they ended between two, is the line of the net after as many as are told.
+pub fn what_is_appended_by_rounds_is_of_them()
+    ensures { (limits : Limits) (most : ℕ) (asked : Asked) (input line : List ℕ)
+        (reached : Rounded) (s : SystemParts)
+        → AppendsLineOf limits most asked input reached (Some []) (Some line)
+        → (reached.outcome.end ≡ Quiet) ⊎ (reached.outcome.end ≡ Steps) → asked ≢ Nothing
+        → ReadsSystemWithin limits input (Ok s)
+        → (answer : Configuration) × (line ≡ line_of s.rules.symbols (renumbered answer))
+        × OneNet answer (iterate s.rules.rules reached.rounds s.config) }
+{
+    ic_in_place::laws::a_line_by_rounds_is_the_net_after_them();
 }
 
 /// Where as many interactions were made as may be and a line is asked for, it is that of a configuration which as many

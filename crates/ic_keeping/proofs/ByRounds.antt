@@ -2,7 +2,7 @@
 use Rattle.std.proofs.Common.{◌≡◌, ◌⊎◌, ⊎_elim, inl, inr, ◌∙◌, ℕ, ◌+◌, ◌-◌, ◌<◌, ◌≤◌, List, ◌++◌, Option, None, Some, length, refl, sym, ap, subst, append_assoc, append-nil, arith}
 use Rattle.std.proofs.lemmas.Bool.{cases_lt}
 use Rattle.std.proofs.lemmas.List.{length-append}
-use Rattle.std.proofs.lemmas.List.Sorted.{IsPermutation-append, IsPermutation-refl, length_permutation}
+use Rattle.std.proofs.lemmas.List.Sorted.{IsPermutation-append, IsPermutation-refl, IsPermutation-sym, IsPermutation-trans, length_permutation}
 use Rattle.std.specs.Prelude.{IsPermutation, IsTrue}
 use Rattle.ic_term.specs.Configuration.{Configuration, configuration_names, occurrences}
 use Rattle.ic_term.specs.Symbol.{is_over}
@@ -42,7 +42,6 @@ pub record RoundLaws : Type 0 where
       → SameButNext (iterate rs.rules n c) (iterate rs.rules n d)
   pub rules : (rs : Rules) (c d : Configuration) → IsRuleSet rs → IsTrue (is_over rs.symbols c) → HasNames c → SameButNext c d
       → IsPermutation (rules_of rs.rules c.equations) (rules_of rs.rules d.equations)
-  pub equations : (c d : Configuration) → SameButNext c d → length d.equations ≡ length c.equations
   pub next : (c : Configuration) (next : ℕ) → SameButNext c (record c { next = next })
   pub other_way : (c d : Configuration) → SameButNext c d → SameButNext d c
   pub through : (c d e : Configuration) → SameButNext c d → SameButNext d e → SameButNext c e
@@ -87,11 +86,13 @@ module _ (laws : RoundLaws) (quiet_laws : QuietLaws) (s t : SystemParts) (sound 
   net_then n = subst (λ (e : Configuration). SameButNext e (iterate rs.rules n t.config)) (sym (rounds_on rs.rules n over s.config))
       (laws.rounds rs n (iterate rs.rules over s.config) t.config sound.rules (laws.over rs over s.config sound.rules sound.over) (laws.names rs over s.config sound.rules sound.over sound.names) names begun)
 
+  rules_at : (n : ℕ) → IsPermutation (rules_of rs.rules (iterate rs.rules (n + over) s.config).equations) (rules_of rs.rules (iterate rs.rules n t.config).equations)
+  rules_at n = laws.rules rs (iterate rs.rules (n + over) s.config) (iterate rs.rules n t.config) sound.rules (laws.over rs (n + over) s.config sound.rules sound.over)
+      (laws.names rs (n + over) s.config sound.rules sound.over sound.names) (net_then n)
+
   -- what fires in the rounds that were over, and then in these
   rules_then : (n : ℕ) → IsPermutation (rules_in rs.rules over s.config ++ rules_in rs.rules n t.config) (rules_in rs.rules (n + over) s.config)
-  rules_then n = rules_after rs.rules over s.config t.config
-      (λ k. laws.rules rs (iterate rs.rules (k + over) s.config) (iterate rs.rules k t.config) sound.rules (laws.over rs (k + over) s.config sound.rules sound.over)
-      (laws.names rs (k + over) s.config sound.rules sound.over sound.names) (net_then k)) n
+  rules_then n = rules_after rs.rules over s.config t.config rules_at n
 
   late : (n : ℕ) → over ≤ n → n < over + made → IsQuiet rs.rules (iterate rs.rules n s.config) → ⊥
   late n low high quiet =
@@ -145,13 +146,15 @@ module _ (laws : RoundLaws) (quiet_laws : QuietLaws) (s t : SystemParts) (sound 
         let long = length-append front own in
         let many = length_permutation (front ++ own) all_rules moved in
         let counts = subst (λ (r : Rules). AreCounts (length r.rules) own fired) rules of.counts in
-        let few = subst (λ (r : Rules). length of.since ≤ length (iterate r.rules made t.config).equations) rules of.few in
-        let same = laws.equations (iterate rs.rules (made + over) s.config) (iterate rs.rules made t.config) (net_then made) in
+        let next = rules_of rs.rules (iterate rs.rules made t.config).equations in
+        let there = rules_of rs.rules (iterate rs.rules (made + over) s.config).equations in
+        let part = subst (λ (r : Rules). IsPermutation (of.since ++ of.rest) (rules_of r.rules (iterate r.rules made t.config).equations)) rules of.part in
         subst (λ (n : ℕ). AreOfRounds rs.rules s.config n end total sums) turned_sum (record {
           since = of.since;
           all = omega (arith, sum, here, then_too, long, many);
           counts = counts_moved (length rs.rules) (front ++ own) all_rules sums moved (counts_add (length rs.rules) front own before_by fired sums was.counts counts adds);
-          few = omega (arith, few, same);
+          rest = of.rest;
+          part = IsPermutation-trans (of.since ++ of.rest) next there part (IsPermutation-sym there next (rules_at made));
           whole = of.whole;
         })
 

@@ -3,6 +3,7 @@ use Rattle.std.proofs.Common.{◌≡◌, ◌≢◌, ◌⊎◌, inl, inr, ⊎_eli
 use Rattle.std.specs.Prelude.{◌↔◌, IsNone}
 use Rattle.std.specs.List.{AllByRecursion}
 use Rattle.std.proofs.lemmas.Bool.{cases_lt}
+use Rattle.std.proofs.lemmas.List.Sorted.{IsPermutation-refl}
 use Rattle.ic_disk.specs.declared.disk.Disk.{Ghosts}
 use Rattle.ic_in_place.specs.declared.running.Bounds.{Bounds}
 use Rattle.ic_in_place.specs.declared.running.End.{End}
@@ -13,6 +14,7 @@ use Rattle.ic_kept.specs.lemmas.CourseLaws.{kept_after}
 use Rattle.ic_term.specs.Configuration.{Configuration}
 use Rattle.ic_round.specs.Quiet.{IsQuiet}
 use Rattle.ic_round.specs.Rounds.{iterate}
+use Rattle.ic_generations.specs.Firings.{rules_of}
 use Rattle.ic_reaching.specs.OneNet.{OneNet}
 use Rattle.ic_state.specs.declared.state.State.{State}
 use Rattle.ic_frames.specs.declared.faults.KeepFault.{KeepFault}
@@ -92,7 +94,8 @@ none_fired rs c n interactions e by_rule of none =
       since = [];
       all = none;
       counts = subst (λ (l : List ℕ). AreCounts (length rs) l by_rule) (nothing (rules_in rs n c ++ of.since) (omega (arith, count, none))) of.counts;
-      few = omega arith;
+      rest = rules_of rs c.equations;
+      part = IsPermutation-refl (rules_of rs c.equations);
       whole = λ either. refl;
     }
   where

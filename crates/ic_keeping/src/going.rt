@@ -558,7 +558,6 @@ impl<T: Threads + Sync, C: Clock + Sync, V: Watch> Run<'_, T, C, V> {
         ic_naming::laws::renamed_words_write_renamed_terms();
         ic_naming::laws::renumbered_words_write_the_renumbered_configuration();
         ic_reaching::laws::where_names_begin_is_no_matter();
-        ic_reaching::laws::where_names_begin_is_all_that_differs();
         ic_reaching::laws::one_net_is_an_equivalence();
         ic_generations::laws::where_names_begin_is_no_matter_to_rounds();
         ic_round::laws::chains_are_steps();

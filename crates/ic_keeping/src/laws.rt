@@ -1,6 +1,6 @@
 //! Laws of reductions that are kept.
 
-ghost use Rattle.std.specs.Prelude.{◌≡◌, ◌≢◌, ◌⊎◌, ◌+◌, ◌*◌, ◌-◌, ◌^◌, ◌<◌, ◌≤◌, List, [], ◌++◌, ℕ, true, false, None, Some, Ok, Err, IsNone, IsTrue, length, max, slice_index_or, if◌then◌else◌};
+ghost use Rattle.std.specs.Prelude.{◌≡◌, ◌≢◌, ◌⊎◌, ◌+◌, ◌*◌, ◌-◌, ◌^◌, ◌<◌, ◌≤◌, List, [], ◌++◌, ℕ, true, false, None, Some, Ok, Err, IsNone, IsPermutation, IsTrue, length, max, slice_index_or, if◌then◌else◌};
 ghost use Rattle.std.specs.Arc.{arc_value};
 ghost use Rattle.std.specs.Option.{option_map};
 ghost use Rattle.ic_disk.specs.Images.{Within};
@@ -12,6 +12,7 @@ ghost use Rattle.ic_round.specs.Quiet.{IsQuiet};
 ghost use Rattle.ic_round.specs.Rounds.{iterate};
 ghost use Rattle.ic_rules.specs.RuleSet.{IsRuleSet};
 ghost use Rattle.ic_confluence.specs.Kinds.{Kind, Chain};
+ghost use Rattle.ic_generations.specs.Firings.{rules_of};
 ghost use Rattle.ic_reaching.specs.OneNet.{OneNet, SameButNext};
 ghost use Rattle.ic_reaching.specs.Reaching.{Reaches, rules_fired};
 ghost use Rattle.ic_streams.specs.Stuck.{stuck_text};
@@ -34,7 +35,7 @@ ghost use Rattle.ic_kept.specs.Course.{HoldOne, HoldOneOf, LeftOnWay};
 ghost use Rattle.ic_kept.specs.Held.{Hold};
 ghost use Rattle.ic_kept.specs.Keeper.{is_broken, Keeps, KeepsModel, newest_of, number_of, other_of};
 ghost use Rattle.ic_kept.specs.Keeping.{CrashInKeeping};
-ghost use Rattle.ic_kept.specs.Lives.{Lives};
+ghost use Rattle.ic_kept.specs.Lives.{AreFound, IsFound, Lives};
 ghost use Rattle.ic_kept.specs.Opening.{InSomeOrder};
 ghost use Rattle.ic_kept.specs.Sheet.{IsNewest, IsShut};
 ghost use Rattle.ic_rules.specs.System.{SystemParts};
@@ -42,9 +43,10 @@ ghost use Rattle.ic_state.specs.State.{Kept, IsKept, kept_by, state_bytes};
 ghost use Rattle.ic_text.specs.SystemText.{ReadsSystemWithin};
 ghost use Rattle.ic_text.specs.declared.limits.Limits.TheVariants.{Wide};
 ghost use Rattle.ic_text.specs.declared.limits.TheConstants.{MAX_NAME};
+ghost use Rattle.ic_keeping.specs.declared.fault.KeepingFault.{KeepingFault};
 ghost use Rattle.ic_keeping.specs.declared.fault.KeepingFault.TheVariants as keeping;
 ghost use Rattle.ic_keeping.specs.declared.going.Ended.{Ended};
-ghost use Rattle.ic_keeping.specs.Life.{AreEmpty, EndsBetween, HasAsFar, HasEnded, HasLived, HasRun, HasState, HoldAState, IsFirstLife, IsFoundAgain, IsLeftBy, IsNotBegun, IsRead, IsLife, IsTold, KeepFails, KeepModel, KeepsOn, StopsABegin, StopsARun, StopsAnOpening, StopsAt};
+ghost use Rattle.ic_keeping.specs.Life.{AreEmpty, EndsBetween, HasAsFar, HasEnded, HasFailed, HasLived, HasRun, HasState, HoldAState, IsFirstLife, IsFoundAgain, IsLeftBy, IsNotBegun, IsRead, IsLife, IsTold, KeepFails, KeepModel, KeepsOn, RefusesFiles, StopsABegin, StopsARun, StopsAnOpening, StopsAt, StopsFrom};
 ghost use Rattle.ic_keeping.specs.Way.{AreAlike, AreSums, ComesPastLimits, IsAnswer, IsAsFar, IsBegun, IsFormFrom, IsFormOf, IsKeptAfter, IsNoLess, IsOnWay, IsReachedFrom, IsStateOf};
 
 use crate::beginning::ResumeFault;
@@ -121,6 +123,15 @@ pub fn lives_go_on<D: Disk>(first: &D, second: &D)
     ensures turned { (s : SystemParts) (begun : Kept) (kept coming : List ℕ)
         → HasLived D.Disk s begun kept coming first.now second.now
         → HasLived D.Disk s begun kept coming second.now first.now }
+    // Found again is what was only read, and is found after a stop since then. What a stop on the way of a life leaves is left by it.
+    ensures again { (read now : D) → IsRead D.Disk first.now read
+        → IsFound D.keeps D.content D.image D.clock D.left first.now read now
+        → IsFoundAgain D.Disk first.now now }
+    ensures left { (s : SystemParts) (found : Kept) (last next : List ℕ) (one other : D)
+        (k n : Keeper D) → (life : IsLife D.Disk s found first.now second.now k n)
+        → AreFound D.keeps D.content D.image D.clock D.left
+        (LeftOnWay D.keeps D.image D.clock D.left life.way last next) one other
+        → IsLeftBy D.Disk life last next one other }
 {
     let _ = first;
     let _ = second;
@@ -199,6 +210,11 @@ pub fn what_is_not_begun_is_as_it_was<D: Disk>(first: &D, second: &D)
     ensures others { (fault : ResumeFault D) → IsNotBegun D.Disk first.now second.now fault
         → (fault.cause ≡ keeping.NotEmpty) ⊎ (fault.cause ≡ keeping.Device)
         ⊎ (fault.cause ≡ keeping.Limit) ⊎ (fault.cause ≡ keeping.Memory) }
+    // A call that has failed is counted by its disk, up to 2^64 - 1.
+    ensures counted { (fault : ResumeFault D) → HasFailed D.Disk first.now second.now fault
+        → (D.failures first.now < D.failures fault.first)
+        ⊎ (D.failures second.now < D.failures fault.second)
+        ⊎ (D.failures fault.first ≡ 2 ^ 64 - 1) ⊎ (D.failures fault.second ≡ 2 ^ 64 - 1) }
 {
     let _ = first;
     let _ = second;
@@ -262,12 +278,16 @@ pub fn what_a_kept_end_says()
 /// Where a reduction is refused at a limit, a net is reached from its state that is past one: the state's own, or one in which
 /// nothing is left that could be put for a name.
 pub fn what_is_past_a_limit()
-    ensures { (s : SystemParts) (k : Kept) → ComesPastLimits s k → IsStateOf s k × (start : ℕ)
+    ensures net { (s : SystemParts) (k : Kept) → ComesPastLimits s k → IsStateOf s k × (start : ℕ)
         × (net : Configuration) × (more : List ℕ)
         × Reaches s.rules.rules (configuration_of k.words k.terms start) net more
         × (((next : ℕ) × (net ≡ configuration_of k.words k.terms next)) ⊎ IsPutTogether net)
         × ((MAX_WIDE_NODES < configuration_nodes net)
         ⊎ (2 ^ 64 - 1 ≤ k.interactions + length more)) }
+    // A run from a state stops so, for want of memory, or where a keep fails.
+    ensures stopped { (s : SystemParts) (k : Kept) (fault : KeepingFault) → StopsFrom s k fault
+        → (fault ≡ keeping.Memory) ⊎ ((fault ≡ keeping.Limit) × ComesPastLimits s k)
+        ⊎ ((cause : KeepFault) × (fault ≡ keeping.Keep cause)) }
 {}
 
 /// What is told at the end of a life: the rules of the system, the line that is asked for, and at a quiet end the first pair
@@ -292,6 +312,9 @@ pub fn what_a_life_tells()
         × ((cause : KeepFault) → ¬ StopsAnOpening (keeping.Keep cause))
         × ((cause : OpenCause) → StopsAnOpening (keeping.Open cause)
         → (cause ≡ opening.Device) ⊎ (cause ≡ opening.Memory)) }
+    ensures files { ¬ RefusesFiles keeping.NotEmpty × ¬ RefusesFiles keeping.Limit
+        × ¬ RefusesFiles keeping.Device
+        × ((cause : KeepFault) → ¬ RefusesFiles (keeping.Keep cause)) }
     ensures begins { ¬ StopsABegin keeping.Unsound
         × ((cause : OpenCause) → ¬ StopsABegin (keeping.Open cause))
         × ((cause : KeepFault) → ¬ StopsABegin (keeping.Keep cause)) }
@@ -426,21 +449,26 @@ pub fn what_a_run_by_rounds_tells()
         × (run.state.interactions ≡ length (rules_in s.rules.rules rounds s.config))
         × AreCounts (length s.rules.rules) (rules_in s.rules.rules rounds s.config)
         run.state.by_rule.items }
-    // Broken off within a round, they are those of these rounds, and of pairs since, no more than the net after them has equations.
+    // Broken off within a round, they are those of these rounds, and of pairs since: with the rest of them, these are what the next
+    // round fires.
     ensures within { (s : SystemParts) (bounds : Bounds) (most : ℕ) (asked : Asked) (k : Kept)
         (run : Ended) (made : ℕ) → HasRun s bounds most asked k run → k.rounds ≡ Some made
         → (rounds : ℕ) × (run.rounds ≡ Some rounds) × (since : List ℕ)
         × (run.state.interactions ≡ length (rules_in s.rules.rules rounds s.config ++ since))
         × AreCounts (length s.rules.rules) (rules_in s.rules.rules rounds s.config ++ since)
-        run.state.by_rule.items
-        × (length since ≤ length (iterate s.rules.rules rounds s.config).equations) }
+        run.state.by_rule.items × (rest : List ℕ) × IsPermutation (since ++ rest)
+        (rules_of s.rules.rules (iterate s.rules.rules rounds s.config).equations) }
     // No fewer are told than were made before, unless no pair has fired at all.
     ensures no_fewer { (s : SystemParts) (bounds : Bounds) (most : ℕ) (asked : Asked) (k : Kept)
         (run : Ended) (made rounds : ℕ) → HasRun s bounds most asked k run → k.rounds ≡ Some made
         → run.rounds ≡ Some rounds
         → (made ≤ rounds) ⊎ ((rounds ≡ 0) × (run.state.interactions ≡ 0)) }
+    // In any order none are told, and its answer is one within the bounds that were asked for.
     ensures any_order { (s : SystemParts) (bounds : Bounds) (most : ℕ) (asked : Asked) (k : Kept)
         (run : Ended) → HasRun s bounds most asked k run → k.rounds ≡ None → run.rounds ≡ None }
+    ensures bounded { (s : SystemParts) (bounds : Bounds) (most : ℕ) (asked : Asked) (k : Kept)
+        (run : Ended) → HasRun s bounds most asked k run → k.rounds ≡ None
+        → IsAnswer s bounds run.end (kept_by run.state) }
     ensures steps { (s : SystemParts) (bounds : Bounds) (most : ℕ) (asked : Asked) (k : Kept)
         (run : Ended) (made : ℕ) → (has : HasRun s bounds most asked k run) → k.rounds ≡ Some made
         → run.end ≡ Steps → (rounds : ℕ) × (run.rounds ≡ Some rounds) × (most ≤ rounds)

@@ -8,8 +8,8 @@ use Rattle.ic_machine.specs.Net.{Net, IsActive}
 use Rattle.ic_machine.specs.Plan.{Plans}
 use Rattle.ic_machine.specs.Runs.{Ran}
 use Rattle.ic_meaning.specs.InPlace.{AreRounds}
-use Rattle.ic_in_place.specs.Rounds.{AreOver, AreTold, FireAfterFirst, next_pairs}
-use Rattle.ic_in_place.specs.Told.{IsBetween, RoundOver}
+use Rattle.ic_in_place.specs.Rounds.{AreOver, AreTold, FireAfterFirst}
+use Rattle.ic_in_place.specs.Told.{RoundOver}
 
 -- one of some pairs can fire
 abbrev pub AreSomeActive : Plans → List Equation → Type 0
@@ -31,7 +31,5 @@ pub record RoundBegins (p : Plans) (pairs rounds : ℕ) (g : Generation) (first 
   pub are_told : AreTold p first pairs made told
   pub active : (made ≡ []) ⊎ AreSomeActive p (present g m.pending)
   pub within : IsWithin g m.pending
-  pub takes : g.end ≡ next_pairs pairs made m
-  pub between : 1 ≤ length made → IsBetween m
   pub ran : Ran p first m
   pub fired : ran.fired ≡ concat made

@@ -1,4 +1,4 @@
-use Rattle.std.proofs.Common.{◌≡◌, ◌≤◌, ℕ, List, length, sum_by, arith, sym, ◌∙◌}
+use Rattle.std.proofs.Common.{◌≡◌, ◌≤◌, ⊎_elim, inl, inr, ℕ, List, length, sum_by, arith, sym, ◌∙◌}
 use Rattle.ic_text.specs.declared.limits.Limits.{Limits}
 use Rattle.ic_in_place.specs.Rounds.{EndsByRounds}
 use Rattle.ic_in_place.specs.declared.rounded.Rounded.{Rounded}
@@ -57,4 +57,8 @@ returns-clause-many c = λ limits most asked input line reached is.
 pub returns-clause-fired : goal.returns-clause-fired
 returns-clause-fired c = λ limits most asked input line reached is.
     of_rounds is.system most reached.rounds is.ends.answer reached.outcome.end reached.outcome.interactions reached.outcome.by_rule.items reached.outcome.name_steps
-    (made_of limits most asked input line reached is) (as_many c limits most asked input line reached is) (left c limits most asked input line reached is)
+    (made_of limits most asked input line reached is) (as_many c limits most asked input line reached is) c.what_fires_in_a_round_is_of_it.ensures
+
+pub returns-clause-under_way : goal.returns-clause-under_way
+returns-clause-under_way c = λ limits most asked input line reached is.
+    ⊎_elim (λ none. inl none) (λ way. inr (omega (arith, way.1, way.2))) is.rounded.ends.under_way

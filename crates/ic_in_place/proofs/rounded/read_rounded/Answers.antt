@@ -3,7 +3,6 @@ use Rattle.ic_in_place.specs.Rounds.{MayEnd}
 use Rattle.ic_in_place.proofs.LineByRounds.{LineLaws}
 use Rattle.ic_in_place.proofs.RoundedSystem.{read_so, rounded_to}
 use Rattle.ic_in_place.proofs.RoundsEnough.{EnoughLaws}
-use Rattle.ic_in_place.proofs.RoundsTold.{LeftLaws}
 use Rattle.ic_in_place.proofs.rounded.read_rounded.Goals as goal
 
 pub returns : goal.returns
@@ -31,10 +30,9 @@ returns c = λ rounds enough most may rounded go_on.
       told = c.name_steps_are_those_of_every_order.ensures.told;
       together = c.what_is_put_together_has_no_name_step.ensures;
     } in
-    let left : LeftLaws = record { rounds = c.rounds_in_place_are_rounds.ensures; left = c.equations_left_are_all_but_circles.ensures } in
     let read = told.read rounded.bounds rounded.come in
     let all = read_so c.args.system enough most c.args.taken stopped.given.items stopped.machine reduced stopped.by_rule.items reduced.by_rule.items stopped.end reduced.end
     (sym told.by_rule) (sym told.end) (rounded, read.0, read.1, read.2, read.3, read.4, read.5, go_on) in
-    rounded_to lines laws c.what_is_reached_quiet_is_the_end_of_every_order.ensures.rounds left c.args.system rounds enough most c.args.taken c.rounds_made-rounds.result
+    rounded_to lines laws c.what_is_reached_quiet_is_the_end_of_every_order.ensures.rounds c.what_fires_in_a_round_is_of_it.ensures c.args.system rounds enough most c.args.taken c.rounds_made-rounds.result
     stopped.given.items stopped.machine reduced
     (subst (λ (n : ℕ). MayEnd rounds (Some enough) most n) (sym told.interactions) may) told.interactions all c.rounds_made-rounds.ensures

@@ -27,7 +27,7 @@ returns-clause-made g c =
     subst (λ (n : ℕ). IsSummed n numbers run.new.machine.counts by_rule) counted
     (subst (λ (cs : List ℕ). IsSummed (length c.in_ok-by_rule.by_rule.items) numbers cs by_rule) c.fired.ensures c.sum_by_rule.ensures) in
     let low : run.new.machine.interactions < 2 ^ 64 = search rules in
-    let P : List ℕ → List RoundOver → Type 0 = λ ns told. GoOn c.args.enough c.in_ok-end.rounds told × g.S.Rows.tells c.args.system.now ns c.args.rows.now run.new.rows
+    let P : List ℕ → ℕ → List RoundOver → Type 0 = λ ns since told. GoOn c.args.enough c.in_ok-end.rounds c.in_ok-end.end since told × g.S.Rows.tells c.args.system.now ns c.args.rows.now run.new.rows
     (g.W.Write.contents c.args.writer.now) (g.W.Write.contents run.new.writer) told in
     let ended = c.in_ok-end.ensures.ended in
     let rounded = rounded_so c.what_a_machine_holds_after_rounds.ensures c.args.system.now ended.0 c.in_ok-end.rounds c.args.bounds.nodes numbers p first.given.items

@@ -13,3 +13,9 @@ returns-in-None-clause-ran c = (
   c.run_piece.ensures.ran,
   fired_none c.args.program.now c.args.machine.now c.run_piece.new.machine c.run_piece.ensures.ran (omega (arith, c.in-None.ensures.none.within)),
 )
+
+pub returns-in-Some-clause-before : goal.returns-in-Some-clause-before
+returns-in-Some-clause-before c = (
+  c.in-Some.ensures.before.1,
+  λ is. omega (arith, c.in-Some.ensures.ended.limited is, c.run_piece.ensures.ran.counted),
+)

@@ -49,3 +49,8 @@ loop-looks-preserved g c =
       left = λ high. omega (arith, c.if-generation-eq0.false);
       looks = omega (arith, count, c.run_generation-run.ensures.at_most, c.loop-looks.invariant.looks, c.look.ensures.next, c.interactions.ensures);
     }
+
+pub returns-then-look-clause-within : goal.returns-then-look-clause-within
+returns-then-look-clause-within g c =
+    let pending : c.look.new.machine.pending ≡ c.run_generation-run.new.self.pending = ap (λ (n : Net). n.pending) c.look.ensures.same in
+    subst (IsWithin c.run_generation-run.new.generation) (sym pending) c.run_generation-run.ensures.within

@@ -39,3 +39,9 @@ returns-clause-turned g c = λ s begun kept coming lived. record {
   state = lived.state;
   lives = turned kept coming c.args.first.now c.args.second.now lived.lives;
 }
+
+pub returns-clause-again : goal.returns-clause-again
+returns-clause-again g c = λ read now is found. (read, is, found)
+
+pub returns-clause-left : goal.returns-clause-left
+returns-clause-left g c = λ s found last next one other k n life are. are

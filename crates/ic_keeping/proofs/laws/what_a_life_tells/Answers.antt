@@ -1,7 +1,7 @@
 use Rattle.ic_frames.specs.declared.faults.OpenCause.{OpenCause}
 use Rattle.ic_frames.specs.declared.faults.OpenCause.TheVariants as opening
 use Rattle.ic_keeping.specs.declared.fault.KeepingFault.{KeepingFault}
-use Rattle.ic_keeping.specs.Life.{StopsABegin, StopsAnOpening}
+use Rattle.ic_keeping.specs.Life.{RefusesFiles, StopsABegin, StopsAnOpening}
 use Rattle.ic_keeping.proofs.Refusing.{run_unopened, run_sound, run_begun, run_no_call}
 use Rattle.ic_keeping.specs.declared.fault.KeepingFault.TheVariants as keeping
 use Rattle.std.proofs.Common.{◌≡◌, ◌≢◌, ◌⊎◌, inl, inr, refl}
@@ -46,6 +46,19 @@ returns-clause-opens c = (
   by_none keeping.Device (λ same. cc) (λ same. cc) (λ same. cc),
   λ cause. by_none (keeping.Keep cause) (λ same. cc) (λ same. cc) (λ same. cc),
   by_two,
+)
+
+files_by : (fault : KeepingFault) → ((cause : OpenCause) → ◌≢◌ fault (keeping.Open cause)) → ◌≢◌ fault keeping.Unsound → ◌≢◌ fault keeping.Memory → RefusesFiles fault → ⊥
+files_by fault one other third (inl is) = one is.0 is.1
+files_by fault one other third (inr (inl is)) = other is
+files_by fault one other third (inr (inr is)) = third is
+
+pub returns-clause-files : goal.returns-clause-files
+returns-clause-files c = (
+  files_by keeping.NotEmpty (λ cause same. cc) (λ same. cc) (λ same. cc),
+  files_by keeping.Limit (λ cause same. cc) (λ same. cc) (λ same. cc),
+  files_by keeping.Device (λ cause same. cc) (λ same. cc) (λ same. cc),
+  λ keep. files_by (keeping.Keep keep) (λ cause same. cc) (λ same. cc) (λ same. cc),
 )
 
 pub returns-clause-begins : goal.returns-clause-begins

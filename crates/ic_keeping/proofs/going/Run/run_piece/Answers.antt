@@ -72,7 +72,6 @@ round_here g c = record {
   names = λ rs n d set over named. c.chains_are_steps.ensures.names rs d (iterate rs.rules n d) set over named (c.rounds_are_steps.ensures.iterate rs.rules n d);
   rounds = c.where_names_begin_is_no_matter_to_rounds.ensures.rounds;
   rules = c.where_names_begin_is_no_matter_to_rounds.ensures.rules;
-  equations = c.where_names_begin_is_all_that_differs.ensures.equations;
   next = c.where_names_begin_is_no_matter.ensures.next;
   other_way = c.where_names_begin_is_no_matter.ensures.other_way;
   through = c.where_names_begin_is_no_matter.ensures.through;
