@@ -16,7 +16,7 @@ pub const IDLE: u32 = 0xffff_fffe;
 pub const FREE: u32 = 0xffff_ffff;
 
 /// What a term begins with: a name, or an agent with the place of its arguments. An agent without arguments has none.
-#[derive(Clone, Copy, Debug)]
+#[derive(Clone, Copy)]
 pub struct Word {
     pub tag: u32,
     pub index: u32,

@@ -3,7 +3,7 @@
 ghost use Rattle.std.specs.Prelude.{◌≡◌, ◌↔◌, codes};
 
 /// The limits with which a text is read.
-#[derive(Clone, Copy, Debug)]
+#[derive(Clone, Copy)]
 pub enum TextLimits {
     /// Those of what is served.
     Served,
@@ -24,7 +24,7 @@ impl TextLimits {
 }
 
 /// How it is told how many interactions were made, and how fast.
-#[derive(Clone, Copy, Debug)]
+#[derive(Clone, Copy)]
 pub enum FiguresFormat {
     /// As lines.
     Lines,
@@ -45,7 +45,7 @@ impl FiguresFormat {
 }
 
 /// How a trace is told.
-#[derive(Clone, Copy, Debug)]
+#[derive(Clone, Copy)]
 pub enum TraceFormat {
     /// As a table with tabs.
     Tsv,
@@ -70,7 +70,7 @@ impl TraceFormat {
 }
 
 /// How it is told what is found.
-#[derive(Clone, Copy, Debug)]
+#[derive(Clone, Copy)]
 pub enum ReportFormat {
     /// As lines.
     Text,

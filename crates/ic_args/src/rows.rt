@@ -3,7 +3,7 @@
 use crate::table::Word;
 
 /// An option `--name`.
-#[derive(Clone, Copy, Debug)]
+#[derive(Clone, Copy)]
 pub struct Flag {
     /// Its name.
     pub name: &'static str,
@@ -12,7 +12,7 @@ pub struct Flag {
 }
 
 /// An option `--name <SHOWN>` with a text.
-#[derive(Clone, Copy, Debug)]
+#[derive(Clone, Copy)]
 pub struct Text {
     /// Its name.
     pub name: &'static str,
@@ -27,7 +27,7 @@ pub struct Text {
 }
 
 /// An option `--name <SHOWN>` with a number.
-#[derive(Clone, Copy, Debug)]
+#[derive(Clone, Copy)]
 pub struct Number {
     /// Its name.
     pub name: &'static str,
@@ -46,7 +46,7 @@ pub struct Number {
 }
 
 /// An option `--name <SHOWN>` with one of several words.
-#[derive(Clone, Copy, Debug)]
+#[derive(Clone, Copy)]
 pub struct Choice {
     /// Its name.
     pub name: &'static str,
@@ -61,7 +61,7 @@ pub struct Choice {
 }
 
 /// What stands after the options.
-#[derive(Clone, Copy, Debug)]
+#[derive(Clone, Copy)]
 pub struct Place {
     /// Its name.
     pub name: &'static str,
@@ -76,7 +76,7 @@ pub struct Place {
 }
 
 /// A row: an option, or what stands after the options.
-#[derive(Clone, Copy, Debug)]
+#[derive(Clone, Copy)]
 pub enum Argument {
     /// `--name`.
     Flag(Flag),
@@ -91,7 +91,7 @@ pub enum Argument {
 }
 
 /// A word of the program with its rows.
-#[derive(Clone, Copy, Debug)]
+#[derive(Clone, Copy)]
 pub struct Entry {
     /// The word.
     pub word: Word,

@@ -12,7 +12,7 @@ use std::alloc::{AllocError, Global};
 const STANDARD: &str = "-";
 
 /// The values that a word of the program is given.
-#[derive(Debug, Drop)]
+#[derive(Drop)]
 pub struct Values<'a> {
     /// What the parser met after the word.
     pub met: ArgMatches<'a>,

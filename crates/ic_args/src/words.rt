@@ -14,7 +14,7 @@ use clap::error::{Error, ErrorKind};
 use std::alloc::{AllocError, AllocFailed, Global};
 
 /// What the words after the program's name ask for.
-#[derive(Debug, Drop)]
+#[derive(Drop)]
 pub enum Request<'a> {
     /// Show this text: a help, or the version.
     Shown(String),
@@ -23,7 +23,7 @@ pub enum Request<'a> {
 }
 
 /// Why the words ask for nothing, each with its lasting number.
-#[derive(Debug, Drop)]
+#[derive(Drop)]
 pub enum WordsFault {
     /// 1: the words are refused: what is wrong with them, and the usage.
     Words(String),

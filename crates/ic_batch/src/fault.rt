@@ -9,7 +9,7 @@ use ic_text::TextFault;
 use std::alloc::{AllocError, AllocFailed};
 
 /// Why a line gives no job.
-#[derive(Clone, Copy, Debug, PartialEq, Eq)]
+#[derive(Clone, Copy, PartialEq, Eq)]
 pub enum JobsCause {
     /// It can't be read. A command that submits nothing is `Syntax`.
     Text(TextFault),
@@ -19,7 +19,7 @@ pub enum JobsCause {
 }
 
 /// Why lines give no jobs, each with its lasting number.
-#[derive(Clone, Copy, Debug, PartialEq, Eq)]
+#[derive(Clone, Copy, PartialEq, Eq)]
 pub enum JobsFault {
     /// 1: the first line with a fault, by its number from 1, blank lines counted, and the fault.
     Line(usize, JobsCause),
@@ -65,7 +65,7 @@ impl<T: Drop> From<AllocFailed<T>> for JobsFault {
 }
 
 /// How a job of the disk differs from the one of its name that is to be there.
-#[derive(Clone, Copy, Debug, PartialEq, Eq)]
+#[derive(Clone, Copy, PartialEq, Eq)]
 pub enum Difference {
     /// It has other rules.
     Rules,
@@ -76,7 +76,7 @@ pub enum Difference {
 }
 
 /// Why a batch ended before it has written what its jobs came to, each with its lasting number.
-#[derive(Clone, Copy, Debug, PartialEq, Eq)]
+#[derive(Clone, Copy, PartialEq, Eq)]
 pub enum BatchFault {
     /// 1: another job has this name. Nothing was done.
     Taken(JobName, Difference),

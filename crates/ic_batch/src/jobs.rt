@@ -5,7 +5,7 @@ use ic_jobs::Budget;
 use ic_rules::JobName;
 
 /// A job that is to be there: its name, and what it begins with.
-#[derive(Debug, Drop)]
+#[derive(Drop)]
 pub struct NewJob {
     pub name: JobName,
     pub system: FlatSystem,

@@ -15,14 +15,14 @@ use ic_term::{names_of_terms, nodes_of_terms};
 use std::alloc::{AllocError, Global};
 
 /// What agents amount to, modulo 2^64: their arities added up, and how many there are.
-#[derive(Clone, Copy, Debug, PartialEq, Eq)]
+#[derive(Clone, Copy, PartialEq, Eq)]
 pub(crate) struct Amounts {
     arities: u64,
     agents: u64,
 }
 
 /// How many nodes a net has, and how many of these are names, modulo 2^64.
-#[derive(Clone, Copy, Debug, PartialEq, Eq)]
+#[derive(Clone, Copy, PartialEq, Eq)]
 pub(crate) struct Figures {
     pub(crate) nodes: u64,
     pub(crate) names: u64,
@@ -35,7 +35,7 @@ const NOTHING: Amounts = Amounts {
 };
 
 /// What the figures of a net that is reduced come from.
-#[derive(Debug, Drop)]
+#[derive(Drop)]
 pub(crate) struct Origins {
     /// How many terms the interface has.
     terms: usize,

@@ -9,7 +9,7 @@ use std::alloc::{AllocError, Global};
 const MOST: usize = 640;
 
 /// What the rounds of a column did.
-#[derive(Clone, Copy, Debug)]
+#[derive(Clone, Copy)]
 pub(crate) struct Column {
     /// How many pairs they fired.
     pub(crate) pairs: u64,
@@ -18,7 +18,7 @@ pub(crate) struct Column {
 }
 
 /// The columns of a picture.
-#[derive(Debug, Drop)]
+#[derive(Drop)]
 pub(crate) struct Columns {
     columns: Vec<Column>,
     /// How many rounds a column is for.

@@ -6,7 +6,7 @@ use std::alloc::{AllocError, Global};
 use std::fmt::Write;
 
 /// What a picture's width and the greatest heights of bars and line stand for; not 0.
-#[derive(Clone, Copy, Debug)]
+#[derive(Clone, Copy)]
 struct Scale {
     width: u64,
     bars: u64,

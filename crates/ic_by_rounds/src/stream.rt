@@ -14,7 +14,7 @@ use std::alloc::Global;
 use std::io::{Read, Write};
 
 /// What is told of the rounds of a text.
-#[derive(Debug, Drop)]
+#[derive(Drop)]
 pub struct Traced {
     /// How they ended, and how many there were.
     pub reached: Rounded,

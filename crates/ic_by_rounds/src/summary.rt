@@ -4,7 +4,7 @@ use crate::row::Row;
 use std::alloc::{AllocError, Global};
 
 /// What rounds did all together. A number above 2^64 - 1 is told as 2^64 - 1.
-#[derive(Clone, Copy, Debug, PartialEq, Eq)]
+#[derive(Clone, Copy, PartialEq, Eq)]
 pub struct Summary {
     /// How many rounds there were: the span.
     pub rounds: u64,

@@ -26,7 +26,7 @@ use std::alloc::{AllocError, Global};
 use std::io::Write;
 
 /// How a trace is shown.
-#[derive(Clone, Copy, Debug, PartialEq, Eq)]
+#[derive(Clone, Copy, PartialEq, Eq)]
 pub enum Format {
     /// A line for each round, with tabs between its numbers, after a line that names them.
     Table,

@@ -9,7 +9,7 @@ use std::io::{self, ErrorKind};
 use std::os::unix::fs::MetadataExt;
 
 /// What a call is made on.
-#[derive(Clone, Copy, Debug, PartialEq, Eq)]
+#[derive(Clone, Copy, PartialEq, Eq)]
 pub enum Target {
     /// The file of a disk, a script or a text.
     File,
@@ -26,7 +26,7 @@ pub enum Target {
 }
 
 /// A call to a file.
-#[derive(Clone, Copy, Debug, PartialEq, Eq)]
+#[derive(Clone, Copy, PartialEq, Eq)]
 pub enum FileCall {
     Open,
     Lock,
@@ -38,7 +38,7 @@ pub enum FileCall {
 }
 
 /// Why the system refused a call to a file.
-#[derive(Clone, Copy, Debug, PartialEq, Eq)]
+#[derive(Clone, Copy, PartialEq, Eq)]
 pub enum Reason {
     /// There is no file of that path, or no folder on the way to it.
     Missing,
@@ -178,7 +178,7 @@ fn reason_of_number(number: u32) -> Reason
 }
 
 /// A call that failed, what it was made on, and why.
-#[derive(Clone, Copy, Debug, PartialEq, Eq)]
+#[derive(Clone, Copy, PartialEq, Eq)]
 pub struct Cause {
     pub target: Target,
     pub call: FileCall,

@@ -15,7 +15,7 @@ use std::alloc::{AllocError, Global};
 use std::io::Write;
 
 /// Why a rich text stands for none: the fault at a place of its text, and what is said of it.
-#[derive(Debug, Drop)]
+#[derive(Drop)]
 pub struct Refused {
     pub text: Vec<u8>,
     pub at: usize,
@@ -24,7 +24,7 @@ pub struct Refused {
 }
 
 /// What a file gives.
-#[derive(Debug, Drop)]
+#[derive(Drop)]
 pub enum Given {
     Text(Vec<u8>),
     /// Lines for a client, whatever they begin with.
@@ -36,7 +36,7 @@ pub enum Given {
 }
 
 /// What was found of files, the worst last.
-#[derive(Clone, Copy, Debug, PartialEq, Eq)]
+#[derive(Clone, Copy, PartialEq, Eq)]
 pub enum Verdict {
     Fine,
     Faulty,

@@ -14,7 +14,7 @@ use std::alloc::{AllocError, Global};
 const MOST_WORDS: usize = 3;
 
 /// What is looked for in a line after so many of its words.
-#[derive(Clone, Copy, Debug, PartialEq, Eq)]
+#[derive(Clone, Copy, PartialEq, Eq)]
 pub(crate) enum Due {
     /// The word of a command.
     Command,
@@ -37,7 +37,7 @@ pub(crate) enum Due {
 }
 
 /// A limit that a line, or one of the words before its system, may pass.
-#[derive(Clone, Copy, Debug, PartialEq, Eq)]
+#[derive(Clone, Copy, PartialEq, Eq)]
 pub(crate) enum LineLimit {
     /// Bytes of the line.
     LineBytes,
@@ -50,7 +50,7 @@ pub(crate) enum LineLimit {
 }
 
 /// What more is known of a line's fault.
-#[derive(Clone, Copy, Debug, PartialEq, Eq)]
+#[derive(Clone, Copy, PartialEq, Eq)]
 pub(crate) enum LineDetail {
     /// What was looked for at its place.
     Sought(Due),
@@ -61,7 +61,7 @@ pub(crate) enum LineDetail {
 }
 
 /// Where a line is refused.
-#[derive(Clone, Copy, Debug, PartialEq, Eq)]
+#[derive(Clone, Copy, PartialEq, Eq)]
 pub(crate) struct LinePlace {
     /// How many bytes of the line stand before the fault.
     pub at: usize,

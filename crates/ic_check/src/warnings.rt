@@ -18,7 +18,7 @@ use ic_term::{Cell, Config, Equation, Symbols, Term};
 use std::alloc::{AllocError, Global};
 
 /// The warnings of a system, each kind in the order of the text.
-#[derive(Debug, Drop)]
+#[derive(Drop)]
 pub struct Warnings {
     /// The symbols of each equation of two agents that no rule takes apart.
     pub ruleless: Vec<(u32, u32)>,

@@ -3,7 +3,7 @@
 use ic_jobs::Command;
 
 /// What a command line asks.
-#[derive(Debug, Drop)]
+#[derive(Drop)]
 pub enum Line {
     /// Nothing: the line has blanks at most.
     Blank,

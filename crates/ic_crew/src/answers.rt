@@ -12,7 +12,7 @@ use std::marker::Model;
 use std::sync::Arc;
 
 /// What a worker sends back for a work: the rules, the work, and its products.
-#[derive(Debug, Drop)]
+#[derive(Drop)]
 pub struct Answer {
     rules: Arc<RuleSet>,
     work: Work,

@@ -8,7 +8,7 @@ use crate::words::{
 use ic_text::is_word_byte;
 
 /// What stands at a place of a text, as far as it tells what is amiss there.
-#[derive(Clone, Copy, Debug, PartialEq, Eq)]
+#[derive(Clone, Copy, PartialEq, Eq)]
 pub(crate) enum Sight {
     /// The end of a text of blanks alone.
     Blank,

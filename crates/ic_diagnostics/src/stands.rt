@@ -1,7 +1,7 @@
 //! Where in a text a place stands, by what stands before it.
 
 /// Where a place stands that is in no agent's parentheses.
-#[derive(Clone, Copy, Debug, PartialEq, Eq)]
+#[derive(Clone, Copy, PartialEq, Eq)]
 pub(crate) enum Stand {
     /// Before the rules and the configuration.
     Front,
@@ -22,7 +22,7 @@ pub(crate) enum Stand {
 }
 
 /// Where a place stands, and in how many agents' parentheses.
-#[derive(Clone, Copy, Debug, PartialEq, Eq)]
+#[derive(Clone, Copy, PartialEq, Eq)]
 pub(crate) struct Spot {
     pub stand: Stand,
     pub depth: usize,

@@ -9,7 +9,7 @@ use ic_text::{Detail, Limits, Misread, TextFault, put_decimal};
 use std::alloc::{AllocError, Global};
 
 /// What a text was to be.
-#[derive(Clone, Copy, Debug, PartialEq, Eq)]
+#[derive(Clone, Copy, PartialEq, Eq)]
 pub enum Kind {
     Config,
     System,

@@ -29,7 +29,7 @@ impl DiskFile for File {
 /// nothing of the bytes: whether it keeps the model is up to the system and the device. Once a sync
 /// has failed no later one is tried, and each is an `Err`: the system may have dropped what was
 /// written and still answer the next sync with success.
-#[derive(Debug, Drop)]
+#[derive(Drop)]
 pub struct FileDisk<F = File> {
     file: F,
     calls: u64,

@@ -14,7 +14,7 @@ use std::alloc::{AllocError, Global};
 
 /// Whether the call that fails is made all the same. A write may be torn: its range is written with
 /// so many of its bytes and zeros in place of the rest. No other call is made then.
-#[derive(Clone, Copy, Debug, PartialEq, Eq)]
+#[derive(Clone, Copy, PartialEq, Eq)]
 pub enum Blow {
     Before,
     After,
@@ -22,13 +22,13 @@ pub enum Blow {
 }
 
 /// Whether all later calls fail too, unmade.
-#[derive(Clone, Copy, Debug, PartialEq, Eq)]
+#[derive(Clone, Copy, PartialEq, Eq)]
 pub enum Then {
     Stop,
     GoOn,
 }
 
-#[derive(Clone, Copy, Debug)]
+#[derive(Clone, Copy)]
 struct Fuse {
     at: u64,
     blow: Blow,
@@ -44,7 +44,7 @@ enum Turn {
 }
 
 /// A disk in memory behind a fuse, which counts the calls of all four kinds.
-#[derive(Debug, Drop)]
+#[derive(Drop)]
 pub struct FuseDisk {
     disk: MemDisk,
     fuse: Fuse,

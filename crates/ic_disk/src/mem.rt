@@ -19,7 +19,7 @@ use std::marker::Model;
 
 /// What a crash leaves: all as it was synced, all as it was written, what was written with this
 /// byte wherever a write is pending, or what was synced with this many bytes of the writes since.
-#[derive(Clone, Copy, Debug, PartialEq, Eq)]
+#[derive(Clone, Copy, PartialEq, Eq)]
 pub enum Choice {
     Synced,
     Written,
@@ -31,7 +31,7 @@ pub enum Choice {
 /// which what a crash may have left at any moment can be told. So a write takes time in its own
 /// bytes (the first one copies the disk), a sync none, and a crash time in all that was ever
 /// written.
-#[derive(Debug, Drop)]
+#[derive(Drop)]
 pub struct MemDisk {
     content: Vec<u8>,
     // As it began. Until the first write it is the content.

@@ -9,7 +9,7 @@ use crate::bytes::{fill_range, lay};
 use std::alloc::AllocError;
 
 // A call that was made, with a copy of what it wrote.
-#[derive(Debug, Drop)]
+#[derive(Drop)]
 pub(crate) enum Noted {
     Write { at: usize, bytes: Vec<u8> },
     Sync,

@@ -7,7 +7,7 @@ use ic_rules::JobName;
 use std::alloc::{AllocError, AllocFailed};
 
 /// Why a table isn't dumped, each with its lasting number.
-#[derive(Clone, Copy, Debug)]
+#[derive(Clone, Copy)]
 pub enum DumpFault {
     /// 1: no job has this name, which is the first such.
     NoJob(JobName),
@@ -20,7 +20,7 @@ pub enum DumpFault {
 }
 
 /// Why the table of a disk isn't dumped.
-#[derive(Clone, Copy, Debug)]
+#[derive(Clone, Copy)]
 pub enum DiskDumpFault {
     /// The disk isn't opened.
     Open(OpenCause),

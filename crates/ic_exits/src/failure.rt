@@ -29,7 +29,7 @@ use ic_text::print_fault;
 use std::alloc::{AllocError, Global};
 
 /// How far a net has come that is reduced in place.
-#[derive(Clone, Copy, Debug)]
+#[derive(Clone, Copy)]
 pub struct Reached {
     /// How many interactions were made.
     pub interactions: u64,
@@ -42,7 +42,7 @@ pub struct Reached {
 }
 
 /// Why the program doesn't do what it is asked, or not all of it.
-#[derive(Debug, Drop)]
+#[derive(Drop)]
 pub enum Failure {
     /// The words after its name ask for nothing.
     Words(WordsFault),

@@ -9,7 +9,7 @@ use ic_slots::OpenCause;
 use std::alloc::{AllocError, Global};
 
 /// What a file is that was taken for a disk, or for the first file of a reduction.
-#[derive(Clone, Copy, Debug, PartialEq, Eq)]
+#[derive(Clone, Copy, PartialEq, Eq)]
 pub enum Other {
     /// One of the two files in which a reduction is kept.
     Reduction,

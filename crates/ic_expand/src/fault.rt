@@ -6,7 +6,7 @@ ghost use Rattle.ic_expand.specs.declared.fault.ExpandFault.TheVariants.{Memory}
 use std::alloc::{AllocError, AllocFailed};
 
 /// Why a text is refused.
-#[derive(Clone, Copy, Debug, PartialEq, Eq)]
+#[derive(Clone, Copy, PartialEq, Eq)]
 pub enum Reason {
     /// It has too many bytes.
     TextBytes,
@@ -29,7 +29,7 @@ pub enum Reason {
 }
 
 /// Why a text isn't expanded.
-#[derive(Clone, Copy, Debug, PartialEq, Eq)]
+#[derive(Clone, Copy, PartialEq, Eq)]
 pub enum ExpandFault {
     /// It is refused, at this place of the text without its comments.
     Refused(Reason, usize),

@@ -7,7 +7,7 @@ use crate::pieces::first_byte;
 use ic_text::is_blank;
 
 /// What a generic rule makes of its symbol.
-#[derive(Clone, Copy, Debug, PartialEq, Eq)]
+#[derive(Clone, Copy, PartialEq, Eq)]
 pub enum Kind {
     /// It copies what it meets.
     Copier,
@@ -16,7 +16,7 @@ pub enum Kind {
 }
 
 /// Where in its rules a text is.
-#[derive(Clone, Copy, Debug, PartialEq, Eq)]
+#[derive(Clone, Copy, PartialEq, Eq)]
 pub(crate) enum Spot {
     /// Within a rule, or in no rules.
     Elsewhere,

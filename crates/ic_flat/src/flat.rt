@@ -17,7 +17,7 @@ use std::alloc::{AllocError, Global};
 use std::marker::Model;
 
 /// A configuration as the list of its words, the interface before the equations, each term in prefix order.
-#[derive(Debug, Drop)]
+#[derive(Drop)]
 pub struct Flat {
     wide: WideFlat,
 }

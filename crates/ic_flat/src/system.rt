@@ -17,7 +17,7 @@ use std::sync::Arc;
 
 /// Rules within the limits of what is served, and a configuration in flat form over their symbols. The rules are
 /// shared, never changed.
-#[derive(Debug, Drop)]
+#[derive(Drop)]
 pub struct FlatSystem {
     rules: Arc<RuleSet>,
     config: Flat,

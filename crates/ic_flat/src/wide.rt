@@ -14,7 +14,7 @@ use std::alloc::{AllocError, Global};
 use std::marker::Model;
 
 /// A wide configuration as the list of its words, the interface before the equations, each term in prefix order.
-#[derive(Debug, Drop)]
+#[derive(Drop)]
 pub struct WideFlat {
     words: Vec<Word>,
     terms: usize,

@@ -12,7 +12,7 @@ use std::marker::Model;
 use std::sync::Arc;
 
 /// Rules, and a wide configuration in flat form over their symbols. The rules are shared, never changed.
-#[derive(Debug, Drop)]
+#[derive(Drop)]
 pub struct WideSystem {
     rules: Arc<RuleSet>,
     config: WideFlat,

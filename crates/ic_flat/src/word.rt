@@ -6,7 +6,7 @@ ghost use Rattle.ic_flat.specs.Words.{arguments, forest, IsWhole, word_eq};
 ghost use Rattle.ic_flat.specs.lemmas.WordTests.{word_eq-equivalence};
 
 /// A word of a term in prefix order: a name, or an agent's symbol with how many arguments it has.
-#[derive(Clone, Copy, Debug)]
+#[derive(Clone, Copy)]
 pub enum Word {
     Name(u64),
     Agent(u32, usize),

@@ -22,7 +22,7 @@ use ic_term::{MAX_NEXT, MAX_NODES};
 use std::alloc::Global;
 
 /// How many equations firing has put on a list, and the first number after the names that they take.
-#[derive(Clone, Copy, Debug)]
+#[derive(Clone, Copy)]
 pub(crate) struct Reached {
     pub equations: usize,
     pub next: u64,

@@ -14,7 +14,7 @@ use ic_settle::Side;
 use std::alloc::AllocError;
 
 /// Where the sides of an equation begin that stays.
-#[derive(Clone, Copy, Debug)]
+#[derive(Clone, Copy)]
 pub(crate) struct Kept {
     pub left: usize,
     pub right: usize,

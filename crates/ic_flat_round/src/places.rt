@@ -13,7 +13,7 @@ use std::collections::BTreeMap;
 const SPREAD: u64 = 0x9e37_79b9_7f4a_7c15;
 
 /// The first and the last container in which a name occurs.
-#[derive(Clone, Copy, Debug)]
+#[derive(Clone, Copy)]
 pub(crate) struct Spot {
     pub name: u64,
     pub first: usize,

@@ -13,7 +13,7 @@ use ic_flat::Word;
 use std::alloc::AllocError;
 
 /// So many terms, one after the other from a place on.
-#[derive(Clone, Copy, Debug)]
+#[derive(Clone, Copy)]
 pub(crate) struct Span {
     pub place: usize,
     pub count: usize,

@@ -13,7 +13,7 @@ use std::marker::Model;
 use std::sync::Arc;
 
 /// A rule set, with the arguments of each rule as words that are ready to be copied.
-#[derive(Debug, Drop)]
+#[derive(Drop)]
 pub struct FlatRules {
     rules: Arc<RuleSet>,
     /// The words of all rules, rule by rule.

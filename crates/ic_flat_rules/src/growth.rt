@@ -16,7 +16,7 @@ use ic_rules::RuleSet;
 use ic_term::nodes_of_terms;
 
 /// Nodes and names, each at most 2^64 - 1, which stands for all above.
-#[derive(Clone, Copy, Debug)]
+#[derive(Clone, Copy)]
 pub(crate) struct Size {
     pub nodes: u64,
     pub names: u64,

@@ -7,7 +7,7 @@ ghost use Rattle.ic_flat_rules.specs.Standing.{pair_at, pairs_at, AreSides, AreI
 use ic_flat::{Flat, Word, end_of_term};
 
 /// Where the sides of an equation begin, and the place after the right one.
-#[derive(Clone, Copy, Debug)]
+#[derive(Clone, Copy)]
 pub struct Sides {
     /// Where the left side begins.
     pub left: usize,

@@ -13,7 +13,7 @@ use std::sync::Arc;
 /// A round that is to be made: a job's place in its table, its name, its rules and configuration in
 /// flat form, and how many rounds it has made. Rules and configuration are shared with the job, and
 /// with the round that is made of it.
-#[derive(Debug, Drop)]
+#[derive(Drop)]
 pub struct Flight {
     place: usize,
     name: JobName,

@@ -14,7 +14,7 @@ use std::sync::Arc;
 /// and how many rounds it had made before. `after` is the round of `before`, and who made it looked
 /// whether it is quiet. The rules and `before` are shared with its flight, and `after` with the job
 /// that it lands in.
-#[derive(Debug, Drop)]
+#[derive(Drop)]
 pub struct Played {
     name: JobName,
     rules: Arc<FlatRules>,

@@ -17,7 +17,7 @@ use std::alloc::{AllocError, Global};
 const FAR: u64 = 65_536;
 
 /// What counts the names and agents of a net while machines reduce it. A name that occurs twice counts once.
-#[derive(Debug, Drop)]
+#[derive(Drop)]
 pub struct Gauge {
     /// Names and agents, at most so many.
     most: u64,
@@ -30,7 +30,7 @@ pub struct Gauge {
 }
 
 /// What a look at a net has found.
-#[derive(Clone, Copy, Debug)]
+#[derive(Clone, Copy)]
 pub struct Look {
     /// How many names and agents there are.
     pub nodes: u64,

@@ -24,7 +24,7 @@ use ic_readback::read_back;
 use std::alloc::{AllocError, Global};
 
 /// What a system was reduced to, and how far that went.
-#[derive(Debug, Drop)]
+#[derive(Drop)]
 pub struct Reduced {
     /// The words of what was reached, the interface's before the equations'.
     pub words: Vec<Word>,

@@ -25,7 +25,7 @@ use std::alloc::{AllocError, Global};
 use std::io::{Read, Write};
 
 /// How a text was reduced by rounds.
-#[derive(Debug, Drop)]
+#[derive(Drop)]
 pub struct Rounded {
     /// What is told of it, as of a reduction in any order.
     pub outcome: Outcome,

@@ -22,7 +22,7 @@ use std::alloc::{AllocError, Global};
 use std::io::Write;
 
 /// How far a reduction by rounds goes.
-#[derive(Clone, Copy, Debug)]
+#[derive(Clone, Copy)]
 pub struct RoundBounds {
     /// Rounds at most.
     pub rounds: u64,
@@ -71,7 +71,7 @@ pub trait Rows<W: Write> {
 }
 
 /// Who isn't told of any round.
-#[derive(Clone, Copy, Debug)]
+#[derive(Clone, Copy)]
 pub struct NoRows;
 
 impl<W: Write> Rows<W> for NoRows {
@@ -103,7 +103,7 @@ impl<W: Write> Rows<W> for NoRows {
 const MOST: u64 = 1 << 62;
 
 /// What the last look has found, and when the next one comes.
-#[derive(Clone, Copy, Debug)]
+#[derive(Clone, Copy)]
 struct Looks {
     last: Look,
     /// After how many interactions.

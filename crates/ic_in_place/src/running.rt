@@ -16,7 +16,7 @@ use ic_machine::{Ended, Machine, MachineFault, Program};
 pub const PIECE: u64 = 4_096;
 
 /// How far a reduction goes.
-#[derive(Clone, Copy, Debug)]
+#[derive(Clone, Copy)]
 pub struct Bounds {
     /// Interactions at most.
     pub steps: u64,
@@ -25,7 +25,7 @@ pub struct Bounds {
 }
 
 /// Why a reduction ended.
-#[derive(Clone, Copy, Debug, PartialEq, Eq)]
+#[derive(Clone, Copy, PartialEq, Eq)]
 pub enum End {
     /// No interaction is possible.
     Quiet,

@@ -29,7 +29,7 @@ use std::io::{Read, Write};
 use std::sync::Arc;
 
 /// What of a reduction is asked for, as a line.
-#[derive(Clone, Copy, Debug)]
+#[derive(Clone, Copy)]
 pub enum Asked {
     /// What is reached, unless the bound of what is held or a limit is met, or memory runs out.
     Answer,
@@ -40,7 +40,7 @@ pub enum Asked {
 }
 
 /// How a text was reduced.
-#[derive(Debug, Drop)]
+#[derive(Drop)]
 pub struct Outcome {
     /// Why the reduction ended.
     pub end: End,

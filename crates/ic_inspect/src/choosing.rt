@@ -6,7 +6,7 @@ ghost use Rattle.ic_inspect.specs.inner.Held.{open_number, newer, newest_of};
 use crate::seen::Seen;
 
 /// The newest open slot, or why there is none.
-#[derive(Clone, Copy, Debug, PartialEq, Eq)]
+#[derive(Clone, Copy, PartialEq, Eq)]
 pub enum Newest {
     NoSlot,
     TwoAlike,

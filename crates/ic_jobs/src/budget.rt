@@ -7,7 +7,7 @@ use crate::limits::MAX_BUDGET;
 use std::marker::Model;
 
 /// The greatest number of rounds that a job makes: 1 to 4,294,967,295.
-#[derive(Clone, Copy, Debug, PartialEq, Eq)]
+#[derive(Clone, Copy, PartialEq, Eq)]
 pub struct Budget {
     rounds: u64,
 }

@@ -10,7 +10,7 @@ use ic_rules::JobName;
 use std::alloc::{AllocError, Global};
 
 /// What a client asks of a job table.
-#[derive(Debug, Drop)]
+#[derive(Drop)]
 pub enum Command {
     /// A new job of this name, with this system, which makes at most as many rounds as its budget
     /// says.

@@ -21,7 +21,7 @@ use std::sync::Arc;
 /// and its budget or none. It is done exactly where its configuration is quiet, and spent exactly
 /// where it isn't quiet and its rounds are its budget. Rules and configuration are shared, never
 /// changed: a round puts another configuration in place.
-#[derive(Debug, Drop)]
+#[derive(Drop)]
 pub struct Job {
     name: JobName,
     rules: Arc<FlatRules>,

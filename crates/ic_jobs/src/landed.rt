@@ -1,7 +1,7 @@
 //! What became of a round that came to a table.
 
 /// What became of a round that was made or can't be made.
-#[derive(Clone, Copy, Debug, PartialEq, Eq)]
+#[derive(Clone, Copy, PartialEq, Eq)]
 pub enum Landed {
     /// The job was as awaited, and has changed.
     Moved,

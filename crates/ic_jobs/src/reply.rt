@@ -6,7 +6,7 @@ use crate::shown::{JobList, ShownJob};
 use std::alloc::AllocError;
 
 /// Why a command is refused. The numbers are lasting.
-#[derive(Clone, Copy, Debug, PartialEq, Eq)]
+#[derive(Clone, Copy, PartialEq, Eq)]
 pub enum Refusal {
     /// A job of this name is in the table.
     Taken = 1,
@@ -32,7 +32,7 @@ impl Refusal {
 }
 
 /// What an event answers.
-#[derive(Debug, Drop)]
+#[derive(Drop)]
 pub enum Reply {
     /// The job was submitted, or copied.
     Accepted,

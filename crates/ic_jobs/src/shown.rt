@@ -13,7 +13,7 @@ use std::sync::Arc;
 
 /// A job as a reply shows it: its name, state and rounds, and its rules and configuration in flat
 /// form, which it shares with the job.
-#[derive(Debug, Drop)]
+#[derive(Drop)]
 pub struct ShownJob {
     name: JobName,
     state: State,
@@ -120,7 +120,7 @@ impl ShownJob {
 }
 
 /// The name, state and rounds of each job of a table, in its order. Copies share the lines.
-#[derive(Debug, Drop)]
+#[derive(Drop)]
 pub struct JobList {
     lines: Arc<Vec<(JobName, State, u64)>>,
 }

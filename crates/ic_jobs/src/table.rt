@@ -16,7 +16,7 @@ use std::marker::Model;
 
 /// Jobs in the order in which they began, at most 32, no two of one name. It keeps the
 /// allocator that it was made with, and the list of its jobs until one changes.
-#[derive(Debug, Drop)]
+#[derive(Drop)]
 pub struct Table {
     jobs: Vec<Job>,
     kept_list: Option<JobList>,

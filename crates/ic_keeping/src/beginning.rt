@@ -29,7 +29,7 @@ use std::alloc::{AllocError, Global};
 use std::sync::Arc;
 
 /// With what a reduction begins.
-#[derive(Debug, Drop)]
+#[derive(Drop)]
 pub struct Start {
     /// The state of its text, from which no interaction was made.
     pub state: State,
@@ -161,7 +161,7 @@ pub(crate) fn bytes_of(alloc: Global, state: &State) -> Result<Vec<u8>, KeepingF
 }
 
 /// Two disks on which no state of a reduction was found, in either order, and why.
-#[derive(Debug, Drop)]
+#[derive(Drop)]
 pub struct ResumeFault<D> {
     pub first: D,
     pub second: D,

@@ -7,7 +7,7 @@ use ic_frames::{KeepFault, OpenCause};
 use std::alloc::{AllocError, AllocFailed};
 
 /// Why a reduction that is kept doesn't go on.
-#[derive(Clone, Copy, Debug, PartialEq, Eq)]
+#[derive(Clone, Copy, PartialEq, Eq)]
 pub enum KeepingFault {
     /// One of the two files holds something, which isn't written over.
     NotEmpty,

@@ -45,7 +45,7 @@ use std::thread::Threads;
 use std::time::Clock;
 
 /// How a run of a reduction has ended, and what it has come to in all runs.
-#[derive(Debug, Drop)]
+#[derive(Drop)]
 pub struct Ended {
     /// Why it ended.
     pub end: End,

@@ -15,7 +15,7 @@ pub(crate) fn millis_of<C: Clock>(clock: &C) -> u64 {
 }
 
 /// How many interactions the next piece makes, by how long the last one made interactions.
-#[derive(Clone, Copy, Debug)]
+#[derive(Clone, Copy)]
 pub struct Pace {
     /// For how many milliseconds a piece should go on.
     pub every: u64,

@@ -6,7 +6,7 @@ ghost use Rattle.ic_kept.specs.declared.fault.CreateFault.TheVariants.{Device};
 use ic_disk::DiskFault;
 
 /// Why no first state is written. The numbers are lasting.
-#[derive(Clone, Copy, Debug, PartialEq, Eq)]
+#[derive(Clone, Copy, PartialEq, Eq)]
 pub enum CreateFault {
     /// One of the two disks holds something, which would be lost.
     NotEmpty = 1,

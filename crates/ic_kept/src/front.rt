@@ -8,7 +8,7 @@ ghost use Rattle.ic_kept.specs.declared.head.TheConstants.{HEAD};
 use crate::HEAD;
 
 /// What the first bytes of a file say in which a state is kept.
-#[derive(Clone, Copy, Debug)]
+#[derive(Clone, Copy)]
 pub struct Front {
     /// Whether the gate is open.
     pub opened: bool,

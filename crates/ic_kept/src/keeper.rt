@@ -25,7 +25,7 @@ pub struct Keeper<D: Disk> {
 }
 
 /// Two disks on which no state was found, and why.
-#[derive(Debug, Drop)]
+#[derive(Drop)]
 pub struct OpenFault<D> {
     pub first: D,
     pub second: D,

@@ -16,7 +16,7 @@ use std::mem::swap;
 const CHUNK: usize = 65_536;
 
 /// Why no line is taken.
-#[derive(Clone, Copy, Debug, PartialEq, Eq)]
+#[derive(Clone, Copy, PartialEq, Eq)]
 pub enum LineFault {
     /// The reader failed.
     Read,

@@ -14,7 +14,7 @@ use std::alloc::Global;
 pub const MAX_SCRIPT: usize = 65_536;
 
 /// Why a script is refused: its first line with a fault, and the fault.
-#[derive(Clone, Copy, Debug, PartialEq, Eq)]
+#[derive(Clone, Copy, PartialEq, Eq)]
 pub struct ScriptFault {
     /// The number of the line, from 1, blank lines counted: a `usize`, since a script has no more lines than bytes.
     pub line: usize,

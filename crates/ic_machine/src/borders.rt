@@ -9,7 +9,7 @@ use std::collections::HashMap;
 use std::marker::Model;
 
 /// A name that stands once in a machine, and once in another one as the other end of the same cut.
-#[derive(Clone, Copy, Debug)]
+#[derive(Clone, Copy)]
 struct Border {
     name: u32,
     /// Whether it was told that a word waits for it.

@@ -10,7 +10,7 @@ use crate::machine::{Machine, MachineFault};
 use crate::plan::Program;
 
 /// The pairs of a generation that are still to be taken: of those that are pending, the first ones up to an end.
-#[derive(Clone, Copy, Debug, PartialEq, Eq)]
+#[derive(Clone, Copy, PartialEq, Eq)]
 pub struct Generation {
     pub end: usize,
 }

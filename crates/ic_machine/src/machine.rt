@@ -27,7 +27,7 @@ use std::alloc::{AllocError, Global};
 use std::marker::Model;
 
 /// How a run has ended.
-#[derive(Clone, Copy, Debug, PartialEq, Eq)]
+#[derive(Clone, Copy, PartialEq, Eq)]
 pub enum Ended {
     /// No pair is left that could fire by the program of the call. Those that were set aside before had no plan in the
     /// program of an earlier call: it is the same if all calls had one program.
@@ -37,7 +37,7 @@ pub enum Ended {
 }
 
 /// Why a run was broken off, with the net as it stood before the next pair.
-#[derive(Clone, Copy, Debug, PartialEq, Eq)]
+#[derive(Clone, Copy, PartialEq, Eq)]
 pub enum MachineFault {
     /// With as many entries more as the plan makes, a table would have 2^32 or more.
     Limit,

@@ -14,7 +14,7 @@ use std::marker::Model;
 const MAX_ROWS: usize = 2_048;
 
 /// Pairs of symbols, each with its place from 0 as its number.
-#[derive(Debug, Drop)]
+#[derive(Drop)]
 pub(crate) struct PairIndex {
     pairs: Vec<(u32, u32)>,
     rows: usize,

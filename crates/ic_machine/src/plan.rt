@@ -13,21 +13,21 @@ use std::alloc::{AllocError, Global};
 use std::marker::Model;
 
 /// The registers of two words that are to be made equal.
-#[derive(Clone, Copy, Debug)]
+#[derive(Clone, Copy)]
 pub struct Link {
     pub left: u32,
     pub right: u32,
 }
 
 /// An agent that is to be made: its symbol, and the register of each argument. Up to four stand in the value itself.
-#[derive(Debug, Drop)]
+#[derive(Drop)]
 pub struct Make {
     pub symbol: u32,
     pub operands: SmallVec<u32, 4>,
 }
 
 /// What a rule makes of two agents: so many fresh names, agents in this order, and equations.
-#[derive(Debug, Drop)]
+#[derive(Drop)]
 pub struct Plan {
     pub names: u32,
     pub makes: Vec<Make>,
@@ -35,7 +35,7 @@ pub struct Plan {
 }
 
 /// The plans of pairs of symbols.
-#[derive(Debug, Drop)]
+#[derive(Drop)]
 pub struct Program {
     arities: Vec<u32>,
     pairs: PairIndex,

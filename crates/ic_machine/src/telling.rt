@@ -11,7 +11,7 @@ use ic_arena::{NAME, Word};
 use std::alloc::{AllocError, Global};
 
 /// A cut for which a word waits, with so many nodes below it, or at least as many.
-#[derive(Clone, Copy, Debug)]
+#[derive(Clone, Copy)]
 pub struct Told {
     pub cut: u32,
     pub size: usize,

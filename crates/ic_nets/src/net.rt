@@ -11,14 +11,14 @@ use ic_term::Config;
 use std::alloc::{AllocError, Global};
 
 /// An agent: the number of its symbol, and how many auxiliary ports it has.
-#[derive(Clone, Copy, Debug, PartialEq, Eq)]
+#[derive(Clone, Copy, PartialEq, Eq)]
 pub struct Agent {
     pub sym: u32,
     pub arity: usize,
 }
 
 /// A wire between two ports, and whether it joins the agents of an active pair.
-#[derive(Clone, Copy, Debug, PartialEq, Eq)]
+#[derive(Clone, Copy, PartialEq, Eq)]
 pub struct Wire {
     pub from: Port,
     pub to: Port,
@@ -26,7 +26,7 @@ pub struct Wire {
 }
 
 /// A net: how many places its interface has, its agents, how many equations of two names there are, and its wires.
-#[derive(Debug, Drop)]
+#[derive(Drop)]
 pub struct Net {
     pub interface: usize,
     /// Each agent's number is its place.

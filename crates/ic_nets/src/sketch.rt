@@ -17,7 +17,7 @@ use ic_term::{Cell, Config, Equation, Term};
 use std::alloc::{AllocError, Global};
 
 /// Agents, and what is joined.
-#[derive(Debug, Drop)]
+#[derive(Drop)]
 pub(crate) struct Sketch {
     pub agents: Vec<Agent>,
     pub links: Vec<Link>,

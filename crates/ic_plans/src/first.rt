@@ -17,7 +17,7 @@ use ic_names::NameTable;
 use std::alloc::{AllocError, Global};
 
 /// The names of a machine that begins with a configuration.
-#[derive(Debug, Drop)]
+#[derive(Drop)]
 pub struct First {
     /// How many it has, besides those that are given.
     pub names: u32,

@@ -80,7 +80,7 @@ impl From<RoundFault> for PoolFault {
 }
 
 /// Why workers give no results.
-#[derive(Clone, Copy, Debug, PartialEq, Eq)]
+#[derive(Clone, Copy, PartialEq, Eq)]
 pub(crate) enum WorkerFault {
     /// A thread could not be started.
     NoThread,

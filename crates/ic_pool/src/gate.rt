@@ -21,7 +21,7 @@ pub trait Gate: Sync {
 }
 
 /// The gate that holds nothing up.
-#[derive(Clone, Copy, Debug)]
+#[derive(Clone, Copy)]
 pub struct OpenGate;
 
 impl Gate for OpenGate {

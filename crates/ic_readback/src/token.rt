@@ -3,7 +3,7 @@
 use ic_arena::Word;
 
 /// A token of a text in prefix order.
-#[derive(Clone, Copy, Debug)]
+#[derive(Clone, Copy)]
 pub enum Token {
     /// A name: that of a place, or one that was given.
     Name(Word),

@@ -4,7 +4,7 @@ use ic_term::{Equation, Term};
 use std::marker::Model;
 
 /// A configuration with a gap in the place of each equation that fires.
-#[derive(Debug, Drop)]
+#[derive(Drop)]
 pub struct Rest {
     interface: Vec<Term>,
     equations: Vec<Option<Equation>>,

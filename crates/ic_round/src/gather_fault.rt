@@ -6,7 +6,7 @@ ghost use Rattle.ic_round.specs.declared.gather_fault.GatherFault.TheVariants.{M
 use std::alloc::AllocError;
 
 /// Why results don't make a configuration, in the order in which it is tried.
-#[derive(Clone, Copy, Debug, PartialEq, Eq)]
+#[derive(Clone, Copy, PartialEq, Eq)]
 pub enum GatherFault {
     /// An awaited place has no result.
     Lost,

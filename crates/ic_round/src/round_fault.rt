@@ -6,7 +6,7 @@ ghost use Rattle.ic_round.specs.declared.round_fault.RoundFault.TheVariants.{Mem
 use std::alloc::AllocError;
 
 /// Why a round isn't made, in the order in which it is tried.
-#[derive(Clone, Copy, Debug, PartialEq, Eq)]
+#[derive(Clone, Copy, PartialEq, Eq)]
 pub enum RoundFault {
     /// The fired configuration has more than 8,192 nodes.
     Overgrown,

@@ -13,7 +13,7 @@ use std::alloc::{AllocError, Global};
 /// The firing of one active equation: its place in the list of equations, the place of its rule in
 /// the rule set, the base of its fresh names, and its sides. These are turned so that the left
 /// symbol is the rule's left symbol.
-#[derive(Debug, Drop)]
+#[derive(Drop)]
 pub struct Work {
     pub place: u64,
     pub rule: usize,
@@ -23,7 +23,7 @@ pub struct Work {
 }
 
 /// The products of a work, which stand in its place.
-#[derive(Debug, Drop)]
+#[derive(Drop)]
 pub struct Fired {
     pub place: u64,
     pub products: Vec<Equation>,

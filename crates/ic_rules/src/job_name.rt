@@ -11,7 +11,7 @@ use std::marker::Model;
 pub const MAX_JOB_NAME: usize = 16;
 
 /// A job's name. It is kept inside the value, so it is copied without memory.
-#[derive(Clone, Copy, Debug, PartialEq, Eq)]
+#[derive(Clone, Copy, PartialEq, Eq)]
 pub struct JobName {
     bytes: [u8; MAX_JOB_NAME],
     len: usize,

@@ -15,7 +15,7 @@ use std::marker::Model;
 
 /// An interaction rule: two symbols by number, the arguments of each, and how many names it has. The names are
 /// numbered 0, 1, .. by first occurrence, left arguments first.
-#[derive(Debug, Drop)]
+#[derive(Drop)]
 pub struct Rule {
     left: u32,
     right: u32,

@@ -23,7 +23,7 @@ use std::collections::BTreeMap;
 use std::marker::Model;
 
 /// Why rules make no rule set, in the order in which it is tried. A rule is named by its place from 0.
-#[derive(Clone, Copy, Debug, PartialEq, Eq)]
+#[derive(Clone, Copy, PartialEq, Eq)]
 pub enum RuleFault {
     /// There are too many rules, or too many nodes in the arguments of one.
     Limit,
@@ -56,14 +56,14 @@ impl<T: Drop> From<AllocFailed<T>> for RuleFault {
 }
 
 /// Two symbols by number, in this order.
-#[derive(Clone, Copy, Debug, PartialEq, Eq, PartialOrd, Ord)]
+#[derive(Clone, Copy, PartialEq, Eq, PartialOrd, Ord)]
 struct SymbolPair {
     first: u32,
     second: u32,
 }
 
 /// Symbols and rules over them, at most one for each unordered pair of symbols.
-#[derive(Debug, Drop)]
+#[derive(Drop)]
 pub struct RuleSet {
     symbols: Symbols,
     rules: Vec<Rule>,

@@ -11,7 +11,7 @@ use std::marker::Model;
 use std::sync::Arc;
 
 /// Rules, and a configuration over their symbols. The rules are shared, never changed.
-#[derive(Debug, Drop)]
+#[derive(Drop)]
 pub struct System {
     rules: Arc<RuleSet>,
     config: Config,

@@ -13,7 +13,7 @@ use ic_pool::PoolFault;
 use std::alloc::{AllocError, AllocFailed};
 
 /// Why scripts aren't attended to, or not in full.
-#[derive(Clone, Copy, Debug, PartialEq, Eq)]
+#[derive(Clone, Copy, PartialEq, Eq)]
 pub enum ScriptsFault {
     /// A file can't be read.
     Read,

@@ -8,7 +8,7 @@ use ic_pool::PoolFault;
 use std::alloc::{AllocError, AllocFailed};
 
 /// Why a serving ended before the end of its lines, each with its lasting number.
-#[derive(Clone, Copy, Debug, PartialEq, Eq)]
+#[derive(Clone, Copy, PartialEq, Eq)]
 pub enum ServeFault {
     /// 1: the reader failed.
     Read,

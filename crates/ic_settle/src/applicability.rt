@@ -1,14 +1,14 @@
 //! Which side of an equation is applicable.
 
 /// A side of an equation.
-#[derive(Clone, Copy, Debug, PartialEq, Eq)]
+#[derive(Clone, Copy, PartialEq, Eq)]
 pub enum Side {
     Left,
     Right,
 }
 
 /// An applicable side of an equation: the name that it is, and where it stands.
-#[derive(Clone, Copy, Debug)]
+#[derive(Clone, Copy)]
 pub struct Applicable {
     pub name: u64,
     pub side: Side,

@@ -3,7 +3,7 @@
 use ic_flat::Word;
 
 /// A text with the rules of a reduction, and how far it has come.
-#[derive(Debug, Drop)]
+#[derive(Drop)]
 pub struct State {
     /// A text that has the rules and the symbols of the system that is reduced.
     pub text: Vec<u8>,
@@ -24,7 +24,7 @@ pub struct State {
 }
 
 /// What the first numbers of a state say.
-#[derive(Clone, Copy, Debug)]
+#[derive(Clone, Copy)]
 pub struct StateHead {
     /// How many interactions were made.
     pub interactions: u64,

@@ -7,7 +7,7 @@ use ic_text::TextFault;
 use std::alloc::{AllocError, AllocFailed};
 
 /// Why a stream isn't answered, each with its lasting number.
-#[derive(Clone, Copy, Debug, PartialEq, Eq)]
+#[derive(Clone, Copy, PartialEq, Eq)]
 pub enum StreamFault {
     /// 1: the input can't be read.
     Read,

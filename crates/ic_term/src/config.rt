@@ -35,7 +35,7 @@ impl From<AllocError> for ConfigFault {
 }
 
 /// A configuration: an interface, a list of equations, and a number above each of its names.
-#[derive(Debug, Drop)]
+#[derive(Drop)]
 pub struct Config {
     interface: Vec<Term>,
     equations: Vec<Equation>,

@@ -43,14 +43,14 @@ impl<T: Drop> From<AllocFailed<T>> for SymbolFault {
 }
 
 /// The text of a symbol, and its arity.
-#[derive(Debug, Drop)]
+#[derive(Drop)]
 struct Entry {
     text: Vec<u8>,
     arity: usize,
 }
 
 /// Symbols with their arities, numbered in the order in which they came.
-#[derive(Debug, Drop)]
+#[derive(Drop)]
 pub struct Symbols {
     entries: Vec<Entry>,
     /// The number of each by the key of its text. It is a tree, so that no texts can be chosen that are slow to find.

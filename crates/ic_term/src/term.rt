@@ -10,7 +10,7 @@ use std::alloc::{AllocError, Global};
 
 /// A term: a name, or an agent.
 #[cycle(term)]
-#[derive(Debug, Drop)]
+#[derive(Drop)]
 pub enum Term {
     Name(u64),
     Agent(Box<Cell>),
@@ -18,14 +18,14 @@ pub enum Term {
 
 /// An agent: the number of its symbol, and its arguments in order.
 #[cycle(term)]
-#[derive(Debug, Drop)]
+#[derive(Drop)]
 pub struct Cell {
     pub sym: u32,
     pub args: Vec<Term>,
 }
 
 /// An equation of two terms.
-#[derive(Debug, Drop)]
+#[derive(Drop)]
 pub struct Equation {
     pub left: Term,
     pub right: Term,

@@ -7,7 +7,7 @@ use std::alloc::{AllocError, AllocFailed};
 
 /// Why a text is refused, in the order in which it is tried, except that a text too long is `Limit` before it
 /// is `Syntax`. An index counts the rules of the text from 0.
-#[derive(Clone, Copy, Debug, PartialEq, Eq)]
+#[derive(Clone, Copy, PartialEq, Eq)]
 pub enum TextFault {
     /// The tokens are no phrase of the grammar.
     Syntax,

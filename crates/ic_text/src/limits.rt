@@ -15,7 +15,7 @@ pub const MAX_WIDE_TEXT: usize = 1 << 33;
 pub const MAX_NAME: u64 = (1 << 32) - 1;
 
 /// The limits with which a text is read. Those of a symbol by itself and of the numbers of names are the same in both.
-#[derive(Clone, Copy, Debug, PartialEq, Eq)]
+#[derive(Clone, Copy, PartialEq, Eq)]
 pub enum Limits {
     /// What a server takes: 262,144 bytes, 64 symbols, 256 rules whose arguments have 2,048 nodes together, 8,192 nodes, 64
     /// terms of the interface.

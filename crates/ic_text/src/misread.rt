@@ -8,7 +8,7 @@ use crate::fault::TextFault;
 use std::alloc::AllocError;
 
 /// A limit that a text may pass.
-#[derive(Clone, Copy, Debug, PartialEq, Eq)]
+#[derive(Clone, Copy, PartialEq, Eq)]
 pub enum Limit {
     /// Bytes of the text.
     TextBytes,
@@ -31,7 +31,7 @@ pub enum Limit {
 }
 
 /// What more is known of a refusal.
-#[derive(Clone, Copy, Debug, PartialEq, Eq)]
+#[derive(Clone, Copy, PartialEq, Eq)]
 pub enum Detail {
     Nothing,
     /// The limit that is passed.
@@ -41,7 +41,7 @@ pub enum Detail {
 }
 
 /// Why a text is refused, and where.
-#[derive(Clone, Copy, Debug, PartialEq, Eq)]
+#[derive(Clone, Copy, PartialEq, Eq)]
 pub struct Misread {
     pub fault: TextFault,
     /// How many bytes of the text stand before the fault, if that is told.
