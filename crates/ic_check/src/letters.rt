@@ -6,7 +6,13 @@ use std::alloc::{AllocError, Global};
 
 /// How often a symbol occurs among these.
 pub(crate) fn count_of(symbols: &[u32], symbol: u32) -> usize {
-    symbols.iter().filter(|other| **other == symbol).count()
+    let mut count = 0usize;
+    for other in symbols {
+        if *other == symbol {
+            count = count.saturating_add(1);
+        }
+    }
+    count
 }
 
 /// Whether a text is one capital letter.

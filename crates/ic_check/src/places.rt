@@ -189,7 +189,9 @@ fn front_of(line: &[u8]) -> Front<'_> {
         };
         let at = line.len().saturating_sub(front.rest.len());
         let limit = front.due.passed(word);
-        front.passed = front.passed.or(limit.map(|limit| (at, limit)));
+        if let (None, Some(limit)) = (front.passed, limit) {
+            front.passed = Some((at, limit));
+        }
         front.due = next;
         front.rest = after_blanks(&front.rest[word.len().min(front.rest.len())..]);
     }
@@ -201,7 +203,10 @@ fn system_place(alloc: Global, text: &[u8]) -> Result<Option<(usize, Detail)>, A
     match find_flat_system(alloc, text) {
         Ok(_) => Ok(None),
         Err(misread) if misread.fault == TextFault::Memory => Err(AllocError),
-        Err(misread) => Ok(misread.place.map(|at| (at, misread.detail))),
+        Err(misread) => match misread.place {
+            Some(at) => Ok(Some((at, misread.detail))),
+            None => Ok(None),
+        },
     }
 }
 

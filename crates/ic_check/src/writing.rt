@@ -39,7 +39,10 @@ fn write_finding<W: Write>(
         (λ fault. (fault ≡ StreamFault.Memory) ⊎ (fault ≡ StreamFault.Write)) }
 {
     let told = told_of(alloc, style, finding)?;
-    write_whole(writer, &told).map_err(|_| StreamFault::Write)
+    match write_whole(writer, &told) {
+        Ok(()) => Ok(()),
+        Err(_) => Err(StreamFault::Write),
+    }
 }
 
 /// Writes what is told of findings, one after the other.
@@ -64,5 +67,8 @@ pub(crate) fn flush<W: Write>(writer: &mut W) -> Result<(), StreamFault>
     ensures grows { Grows (W.contents writer.old) (W.contents writer.new) }
     ensures sort { IfErr result (λ fault. fault ≡ StreamFault.Write) }
 {
-    writer.flush().map_err(|_| StreamFault::Write)
+    match writer.flush() {
+        Ok(()) => Ok(()),
+        Err(_) => Err(StreamFault::Write),
+    }
 }

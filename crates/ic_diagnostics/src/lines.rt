@@ -8,7 +8,13 @@ use std::alloc::{AllocError, Global};
 
 /// The number of the line in which a text ends, from 1.
 pub fn line_number(front: &[u8]) -> usize {
-    front.iter().filter(|byte| **byte == b'\n').count() + 1
+    let mut number = 1usize;
+    for byte in front {
+        if *byte == b'\n' {
+            number = number.saturating_add(1);
+        }
+    }
+    number
 }
 
 /// The line in which a text ends, as far as it goes.

@@ -87,8 +87,10 @@ pub fn is_joined(front: &[u8], rest: &[u8]) -> bool {
 
 /// Whether a text begins with a word for which `expand` writes rules, and goes on with another word.
 fn opens_spread(text: &[u8]) -> bool {
-    is_spread(first_word(text))
-        && first_byte(after_word(text)).is_some_and(|byte| is_word_byte(byte))
+    match first_byte(after_word(text)) {
+        Some(byte) => is_word_byte(byte) && is_spread(first_word(text)),
+        None => false,
+    }
 }
 
 /// Whether a text begins with a word that begins as names do and is given arguments.

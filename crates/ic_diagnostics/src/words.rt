@@ -73,12 +73,20 @@ pub(crate) fn without_blanks(text: &[u8]) -> &[u8] {
 
 /// Whether these bytes are blanks.
 pub(crate) fn are_blank(text: &[u8]) -> bool {
-    text.iter().all(|byte| is_blank(*byte))
+    for byte in text {
+        if !is_blank(*byte) {
+            return false;
+        }
+    }
+    true
 }
 
 /// Whether a word begins as names do.
 pub(crate) fn begins_as_name(word: &[u8]) -> bool {
-    word.first().is_some_and(|byte| byte.is_ascii_lowercase())
+    match word.first() {
+        Some(byte) => byte.is_ascii_lowercase(),
+        None => false,
+    }
 }
 
 /// Whether a word begins with a small letter, as names do, and isn't one.

@@ -115,5 +115,8 @@ fn write<W: Write>(writer: &mut W, lines: &[u8]) -> Result<(), DumpFault>
         (AppendsFront (W.contents writer.old) (W.contents writer.new) [] lines.now) }
     ensures refused { IfErr result (λ fault. fault ≡ DumpFault.Write) }
 {
-    write_flushed(writer, lines).map_err(|_| DumpFault::Write)
+    match write_flushed(writer, lines) {
+        Ok(()) => Ok(()),
+        Err(_) => Err(DumpFault::Write),
+    }
 }

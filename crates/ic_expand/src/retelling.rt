@@ -1,6 +1,7 @@
 //! Telling a refusal of what a rich text is expanded to at its place in that text.
 
 use crate::opening::Opened;
+use crate::several::{after_last, part_of};
 use ic_diagnostics::place_lines;
 use std::alloc::{AllocError, Global};
 
@@ -16,14 +17,9 @@ struct Told<'t> {
 
 /// A text before its last line, and that line, both without the ends of their lines.
 fn split_last(text: &[u8]) -> (&[u8], &[u8]) {
-    match text.iter().rposition(|byte| *byte == b'\n') {
-        Some(place) => {
-            let (front, rest) = text.split_at(place);
-            let (_, line) = rest.split_at(rest.len().min(1));
-            (front, line)
-        }
-        None => (&text[..0], text),
-    }
+    let from = after_last(text, b'\n').min(text.len());
+    let (front, line) = text.split_at(from);
+    (part_of(front, 0, from.saturating_sub(1)), line)
 }
 
 /// The number with which a text begins, and what follows it.

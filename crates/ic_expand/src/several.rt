@@ -36,21 +36,31 @@ pub(crate) fn part_of(text: &[u8], from: usize, to: usize) -> &[u8] {
 
 /// Where the configurations of a text may begin: after its last `}`, and nowhere if rules are open there.
 pub(crate) fn after_rules(body: &[u8]) -> usize {
-    match body.iter().rposition(|byte| *byte == b'}') {
-        Some(place) => place.saturating_add(1),
-        None => {
-            let opens = body.iter().any(|byte| *byte == b'{');
-            if opens { body.len() } else { 0 }
+    let closed = after_last(body, b'}');
+    if closed == 0 && body.contains(&b'{') {
+        return body.len();
+    }
+    closed
+}
+
+/// The place after the last such byte of a text, or its beginning.
+pub(crate) fn after_last(text: &[u8], byte: u8) -> usize {
+    for place in (0..text.len()).rev() {
+        if text[place] == byte {
+            return place + 1;
         }
     }
+    0
 }
 
 /// The place after the first `>` of a text, or its end.
 fn after_closing(text: &[u8]) -> usize {
-    match text.iter().position(|byte| *byte == b'>') {
-        Some(place) => place.saturating_add(1),
-        None => text.len(),
+    for (place, byte) in text.iter().enumerate() {
+        if *byte == b'>' {
+            return place.saturating_add(1);
+        }
     }
+    text.len()
 }
 
 /// The places of each `<` of a text from a place on, but for `<<`, which is Inpla's.
@@ -85,7 +95,7 @@ fn are_closed(body: &[u8], places: &[usize]) -> bool {
     for (number, from) in places.iter().enumerate() {
         if let Some(next) = places.get(number.saturating_add(1)) {
             let part = part_of(body, *from, *next);
-            if !part.iter().any(|byte| *byte == b'>') {
+            if !part.contains(&b'>') {
                 return false;
             }
         }
@@ -109,10 +119,7 @@ fn nets_of(alloc: Global, body: &[u8]) -> Result<Vec<Net>, AllocError> {
 
 /// Appends ends of lines and blanks in the place of a text, so that what follows has its line and its column.
 fn put_blanks(text: &[u8], out: &mut Vec<u8>) -> Result<(), AllocError> {
-    let last = match text.iter().rposition(|byte| *byte == b'\n') {
-        Some(place) => place.saturating_add(1),
-        None => 0,
-    };
+    let last = after_last(text, b'\n');
     for (place, byte) in text.iter().enumerate() {
         if *byte == b'\n' {
             out.push(b'\n')?;
@@ -147,9 +154,10 @@ impl Several {
 
     /// The place of the one with this number, from 0.
     pub fn place_of(&self, number: usize) -> usize {
-        self.nets
-            .get(number)
-            .map_or(self.body.len(), |net| net.from)
+        match self.nets.get(number) {
+            Some(net) => net.from,
+            None => self.body.len(),
+        }
     }
 
     /// The rules, each `let` before the one with this number, and this one alone, at its line and column.
@@ -173,8 +181,9 @@ impl Several {
 
     /// What follows all that belongs to the one with this number.
     pub(crate) fn after(&self, number: usize) -> usize {
-        self.nets
-            .get(number)
-            .map_or(self.body.len(), |net| net.after)
+        match self.nets.get(number) {
+            Some(net) => net.after,
+            None => self.body.len(),
+        }
     }
 }

@@ -22,11 +22,16 @@ fn interface_end(inner: &[u8]) -> usize {
 
 /// A list of terms or equations without blanks, and without a `,`, at its end.
 fn trimmed(list: &[u8]) -> &[u8] {
-    match list.iter().rposition(|byte| !is_blank(*byte)) {
-        Some(place) if list.get(place).copied() == Some(b',') => part_of(list, 0, place),
-        Some(place) => part_of(list, 0, place.saturating_add(1)),
-        None => part_of(list, 0, 0),
+    for place in (0..list.len()).rev() {
+        let byte = list[place];
+        if byte == b',' {
+            return part_of(list, 0, place);
+        }
+        if !is_blank(byte) {
+            return part_of(list, 0, place.saturating_add(1));
+        }
     }
+    part_of(list, 0, 0)
 }
 
 /// How many `_` stand in a row in a text at most.

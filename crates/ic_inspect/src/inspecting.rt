@@ -88,5 +88,8 @@ pub fn tell<W: Write>(
         Layout::Words => report(alloc, looked)?,
         Layout::Objects => objects(alloc, looked)?,
     };
-    write_flushed(writer, &lines).map_err(|_| InspectFault::Write)
+    match write_flushed(writer, &lines) {
+        Ok(()) => Ok(()),
+        Err(_) => Err(InspectFault::Write),
+    }
 }

@@ -99,7 +99,7 @@ impl<'a> Line<'a> {
         let Some(mut shown) = self.shown.try_lock() else {
             return;
         };
-        if shown.is_some_and(|shown| shown.is_line) {
+        if let Some(Shown { is_line: true, .. }) = *shown {
             let _ = self.rt.stderr().write_all(WIPED);
         }
         *shown = None;
@@ -139,13 +139,13 @@ impl<'a> Progress<'a> {
 
 impl Tells for Progress<'_> {
     fn line(&self, alloc: Global, a_second: u64) -> Result<String, AllocError> {
-        let pace = Some(Pace {
+        let pace = Pace {
             rounds_a_second: a_second,
             jobs_running: self.running.load(Ordering::SeqCst),
-        });
+        };
         let has_rounds = self.rounds.load(Ordering::SeqCst) > 0;
         let events = self.events.load(Ordering::SeqCst);
-        progress_line(alloc, events, pace.filter(|_| has_rounds))
+        progress_line(alloc, events, has_rounds.then_some(pace))
     }
 }
 

@@ -43,7 +43,12 @@ impl Shares {
 
     /// Whether several threads made anything.
     fn are_some(&self) -> bool {
-        self.by_thread.iter().any(|made| *made > 0)
+        for made in &self.by_thread {
+            if *made > 0 {
+                return true;
+            }
+        }
+        false
     }
 
     /// Appends their line, if they made anything.

@@ -128,9 +128,10 @@ impl<'t> Arrow<'t> {
 
     /// Whether the token at a place is a name.
     fn is_name(&self, place: usize) -> bool {
-        self.tokens
-            .get(place)
-            .is_some_and(|token| token.kind == Kind::Name)
+        match self.tokens.get(place) {
+            Some(token) => token.kind == Kind::Name,
+            None => false,
+        }
     }
 
     /// Writes a term, with what its wires lead to in the place of its names.

@@ -3,7 +3,9 @@
 use crate::arrows::{has_arrow, has_pattern};
 use crate::fault::{Reason, RichFault};
 use crate::holes::Hole;
-use crate::segments::{Segment, after_blanks, after_meeting, leading_word, part_of, second_of};
+use crate::segments::{
+    Segment, after_blanks, after_meeting, count_of, leading_word, part_of, second_of,
+};
 use crate::sentences::sentence;
 use crate::signs::is_line;
 use crate::tokens::tokens_of;
@@ -75,9 +77,8 @@ fn before_mark<'t>(part: &'t [u8], mark: &[u8]) -> &'t [u8] {
 
 /// Whether a side of a rule is a symbol, and names if it has arguments.
 fn is_plain_side(side: &[u8]) -> bool {
-    let is_formed = side.iter().any(|byte| *byte == b'[' || *byte == b'^');
-    let opened = side.iter().filter(|byte| **byte == b'(').count();
-    !is_formed && opened < 2 && !has_pattern(side) && !leading_word(side).is_empty()
+    let is_formed = side.contains(&b'[') || side.contains(&b'^');
+    !is_formed && count_of(side, b'(') < 2 && !has_pattern(side) && !leading_word(side).is_empty()
 }
 
 /// What the sides of a rule are told by.
@@ -119,12 +120,7 @@ fn place_in(source: usize, text: &[u8], segment: Segment) -> Place {
 
 /// The line of a place in a text, from 1.
 pub(crate) fn line_of(text: &[u8], at: usize) -> usize {
-    let front = part_of(text, 0, at);
-    front
-        .iter()
-        .filter(|byte| **byte == b'\n')
-        .count()
-        .saturating_add(1)
+    count_of(part_of(text, 0, at), b'\n').saturating_add(1)
 }
 
 /// Appends the file of a place and its line.

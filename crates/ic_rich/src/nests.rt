@@ -152,10 +152,10 @@ impl<'t> Nests<'t> {
 
     /// Splits the rules of a group, beside which none without an arrow stands.
     fn split(&mut self, group: &Group, fresh: &mut Fresh<'t>) -> Result<(), RichFault> {
-        let first = group
-            .rules
-            .first()
-            .and_then(|rule| self.splitting.get(*rule));
+        let first = match group.rules.first() {
+            Some(rule) => self.splitting.get(*rule),
+            None => None,
+        };
         if let (Some(plain), Some((pattern, _))) = (group.plain, first) {
             return Err(NestReason::Overlap(pattern.at()).at(plain));
         }

@@ -72,7 +72,10 @@ pub(crate) fn without(
 impl Row {
     /// The token with which the argument at a place begins.
     pub(crate) fn token_at(&self, column: usize) -> usize {
-        self.args.get(column).map_or(0, |arg| arg.from)
+        match self.args.get(column) {
+            Some(arg) => arg.from,
+            None => 0,
+        }
     }
 }
 
@@ -89,7 +92,10 @@ impl Node {
 
     /// How many arguments both sides have.
     pub(crate) fn width(&self) -> usize {
-        self.rows.first().map_or(0, |row| row.args.len())
+        match self.rows.first() {
+            Some(row) => row.args.len(),
+            None => 0,
+        }
     }
 
     /// Its rows alone.

@@ -74,7 +74,10 @@ impl<'t> Pattern<'t> {
 
     /// Where a token stands in the text.
     pub(crate) fn place_of(&self, place: usize) -> usize {
-        self.rule.tokens().get(place).map_or(0, |token| token.at)
+        match self.rule.tokens().get(place) {
+            Some(token) => token.at,
+            None => 0,
+        }
     }
 
     /// Where the rule begins in the text.

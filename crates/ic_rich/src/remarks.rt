@@ -215,8 +215,7 @@ impl Remarks {
 
     /// Adds rules to those that come by the `use` at a place.
     fn add_rules(&mut self, alloc: Global, at: usize, pairs: Vec<Pair>) -> Result<(), AllocError> {
-        let place = self.borrowed.iter().position(|borrowed| borrowed.at == at);
-        let place = match place {
+        let place = match self.place_of(at) {
             Some(place) => place,
             None => self.begin_rules(alloc, at)?,
         };
@@ -226,6 +225,16 @@ impl Remarks {
             }
         }
         Ok(())
+    }
+
+    /// Where the rules are that come by the `use` at a place, if it has begun with them.
+    fn place_of(&self, at: usize) -> Option<usize> {
+        for (place, borrowed) in self.borrowed.iter().enumerate() {
+            if borrowed.at == at {
+                return Some(place);
+            }
+        }
+        None
     }
 
     /// Begins with the rules that come by the `use` at a place. It answers where they are.

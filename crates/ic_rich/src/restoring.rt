@@ -1,6 +1,6 @@
 //! Nets in which agents that wait are told as the two agents that they were.
 
-use crate::segments::part_of;
+use crate::segments::{last_of, part_of};
 use crate::tokens::first_word;
 use std::alloc::{AllocError, Global};
 use std::collections::BTreeMap;
@@ -274,10 +274,7 @@ impl Restoring<'_> {
         for part in &parts {
             out.extend_from_slice(part)?;
         }
-        let at = out
-            .iter()
-            .rposition(|byte| *byte == b'>')
-            .unwrap_or(out.len());
+        let at = last_of(&out, b'>').unwrap_or(out.len());
         let end = part_of(&out, at, out.len()).to_vec(alloc)?;
         out.truncate(at);
         for equation in &equations {

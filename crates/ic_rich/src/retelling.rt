@@ -1,7 +1,7 @@
 //! Refusals of a plain text, told at that place of the rich text from which what stands there comes, and in its words.
 
 use crate::joined::{JoinRefusal, Joined, line_of};
-use crate::segments::part_of;
+use crate::segments::{last_of, part_of};
 use crate::tokens::{first_word, joins};
 use crate::unfolding::{Places, Unfolded, unfold};
 use crate::whence::{Generic, Names, rule_start, whence_of};
@@ -58,7 +58,7 @@ fn without_places(sentence: &[u8]) -> &[u8] {
         _ => 0,
     };
     let is_far = sentence.ends_with(b" columns before") || sentence.ends_with(b" column before");
-    let to = match sentence.iter().rposition(|byte| *byte == b',') {
+    let to = match last_of(sentence, b',') {
         Some(place) if is_far => place,
         _ => sentence.len(),
     };

@@ -33,6 +33,27 @@ pub(crate) fn part_of(text: &[u8], from: usize, to: usize) -> &[u8] {
     part
 }
 
+/// How often a byte stands in a text.
+pub(crate) fn count_of(text: &[u8], byte: u8) -> usize {
+    let mut count = 0usize;
+    for it in text {
+        if *it == byte {
+            count = count.saturating_add(1);
+        }
+    }
+    count
+}
+
+/// Where a byte stands last in a text, if it stands there.
+pub(crate) fn last_of(text: &[u8], byte: u8) -> Option<usize> {
+    for place in (0..text.len()).rev() {
+        if text[place] == byte {
+            return Some(place);
+        }
+    }
+    None
+}
+
 /// What follows the blanks with which a text begins.
 pub(crate) fn after_blanks(text: &[u8]) -> &[u8] {
     for (place, byte) in text.iter().enumerate() {

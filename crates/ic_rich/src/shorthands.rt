@@ -60,8 +60,13 @@ pub(crate) struct Shorthands<'t> {
 }
 
 /// Whether a word has digits alone.
-fn is_number(word: &[u8]) -> bool {
-    !word.is_empty() && word.iter().all(|byte| byte.is_ascii_digit())
+pub(crate) fn is_number(word: &[u8]) -> bool {
+    for byte in word {
+        if !byte.is_ascii_digit() {
+            return false;
+        }
+    }
+    !word.is_empty()
 }
 
 /// The number that digits write, or the greatest one.

@@ -71,7 +71,10 @@ pub(crate) struct Signs<'t> {
 
 /// The refusal at a token, or at the end of a declaration where there is none.
 fn refused_at(tokens: &[Token], place: usize, end: usize, reason: ShorthandReason) -> RichFault {
-    reason.at(tokens.get(place).map_or(end, |token| token.at))
+    match tokens.get(place) {
+        Some(token) => reason.at(token.at),
+        None => reason.at(end),
+    }
 }
 
 /// The text of the token at a place, if it is a symbol.

@@ -99,7 +99,18 @@ impl<'t> Splitting<'t> {
 
     /// Where a rule begins in the text.
     fn at(&self, rule: usize) -> usize {
-        self.patterns.get(rule).map_or(0, |pattern| pattern.at())
+        match self.patterns.get(rule) {
+            Some(pattern) => pattern.at(),
+            None => 0,
+        }
+    }
+
+    /// Where the rule of a row begins in the text.
+    fn at_row(&self, rows: &[Row], place: usize) -> usize {
+        match rows.get(place) {
+            Some(row) => self.at(row.rule),
+            None => 0,
+        }
     }
 
     /// Splits the rules of two symbols that have these numbers.
@@ -126,7 +137,11 @@ impl<'t> Splitting<'t> {
 
     /// The node of these rules, whose first one says which side is the left one.
     fn root_of(&mut self, rules: &[usize]) -> Result<Option<Node>, RichFault> {
-        let Some(first) = rules.first().and_then(|rule| self.patterns.get(*rule)) else {
+        let first = match rules.first() {
+            Some(rule) => self.patterns.get(*rule),
+            None => None,
+        };
+        let Some(first) = first else {
             return Ok(None);
         };
         let [left, right] = first.sides();
@@ -160,13 +175,17 @@ impl<'t> Splitting<'t> {
 
     /// A row, which is refused if it has not as many arguments as those before it: at a term, or at the right side.
     fn same_width(&self, rows: &[Row], row: Row, term: Option<Span>) -> Result<Row, RichFault> {
-        let width = rows
-            .first()
-            .map_or(row.args.len(), |first| first.args.len());
+        let is_same = match rows.first() {
+            Some(first) => first.args.len() == row.args.len(),
+            None => true,
+        };
         match self.patterns.get(row.rule) {
-            Some(pattern) if width != row.args.len() => {
+            Some(pattern) if !is_same => {
                 let [_, right] = pattern.sides();
-                let place = term.map_or(right.symbol, |it| it.from);
+                let place = match term {
+                    Some(term) => term.from,
+                    None => right.symbol,
+                };
                 Err(NestReason::Arity.at(pattern.place_of(place)))
             }
             _ => Ok(row),
@@ -184,11 +203,21 @@ impl<'t> Splitting<'t> {
     /// The first place at which no row has a name.
     fn column_of(&self, node: &Node) -> Option<usize> {
         for column in 0..node.width() {
-            if node.rows.iter().all(|row| !self.has_name(row, column)) {
+            if !self.have_name(&node.rows, column) {
                 return Some(column);
             }
         }
         None
+    }
+
+    /// Whether one of these rows has a name at a place.
+    fn have_name(&self, rows: &[Row], column: usize) -> bool {
+        for row in rows {
+            if self.has_name(row, column) {
+                return true;
+            }
+        }
+        false
     }
 
     /// The symbol that a row has at a place.
@@ -231,11 +260,11 @@ impl<'t> Splitting<'t> {
 
     /// The refusal of a rule at a token.
     fn refused_at(&self, rule: usize, token: usize, reason: NestReason) -> RichFault {
-        reason.at(
-            self.patterns
-                .get(rule)
-                .map_or(0, |pattern| pattern.place_of(token)),
-        )
+        let at = match self.patterns.get(rule) {
+            Some(pattern) => pattern.place_of(token),
+            None => 0,
+        };
+        reason.at(at)
     }
 
     /// Notes a rule that is written before another one.
@@ -336,8 +365,7 @@ impl<'t> Splitting<'t> {
 
     /// Why rows can't be told apart: one overlaps the first one, or none of their arguments may be looked at first.
     fn refused_rows(&self, rows: &[Row]) -> RichFault {
-        let first = rows.first().map_or(0, |row| self.at(row.rule));
-        let second = rows.get(1).map_or(0, |row| self.at(row.rule));
+        let (first, second) = (self.at_row(rows, 0), self.at_row(rows, 1));
         match self.overlapping(rows) {
             Ok(Some(rule)) => NestReason::Overlap(first).at(self.at(rule)),
             Ok(None) => NestReason::Unordered(first).at(second),

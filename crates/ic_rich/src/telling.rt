@@ -4,6 +4,8 @@
 //! is a number.
 
 use crate::restoring::restored;
+use crate::segments::last_of;
+use crate::shorthands::is_number;
 use crate::tokens::first_word;
 use crate::wording::Wording;
 use std::alloc::{AllocError, Global};
@@ -129,7 +131,7 @@ impl Telling<'_> {
     /// Puts the symbol of one more as often, by `^` unless once is enough. One of digits would be a number then.
     fn put_power(&mut self, count: u64) -> Result<(), AllocError> {
         let symbol = &self.wording.number.more;
-        let is_number = symbol.iter().all(|byte| byte.is_ascii_digit());
+        let is_number = is_number(symbol);
         self.out.extend_from_slice(symbol)?;
         if count > 1 || is_number {
             self.out.push(b'^')?;
@@ -215,10 +217,7 @@ impl Telling<'_> {
 /// A graph of a net, of which each free name has that label which it has in these words.
 pub fn told_graph(alloc: Global, wording: &Wording, graph: &[u8]) -> Result<Vec<u8>, AllocError> {
     let mut out = Vec::new(alloc);
-    let end = graph
-        .iter()
-        .rposition(|byte| *byte == b'}')
-        .unwrap_or(graph.len());
+    let end = last_of(graph, b'}').unwrap_or(graph.len());
     let (front, end) = graph.split_at(end.min(graph.len()));
     out.extend_from_slice(front)?;
     for (name, word) in &wording.names {

@@ -46,7 +46,7 @@ pub(crate) fn first_word(text: &[u8]) -> &[u8] {
 
 /// Whether a word has none of these two bytes.
 fn lacks(word: &[u8], one: u8, other: u8) -> bool {
-    word.iter().all(|byte| *byte != one && *byte != other)
+    !word.contains(&one) && !word.contains(&other)
 }
 
 /// What a word is.

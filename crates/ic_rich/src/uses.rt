@@ -3,7 +3,6 @@
 use crate::fault::{Reason, UseReason};
 use crate::segments::{Segment, after_blanks, leading_word, part_of, segments_of};
 use crate::tokens::first_word;
-use ic_text::is_blank;
 use std::alloc::{AllocError, AllocFailed, Global};
 
 /// How many files there are at most, with the first one.
@@ -105,7 +104,7 @@ pub(crate) fn use_at(text: &[u8], segment: Segment) -> Option<usize> {
 
 /// Whether a text has blanks alone.
 fn is_over(text: &[u8]) -> bool {
-    text.iter().all(|byte| is_blank(*byte))
+    after_blanks(text).is_empty()
 }
 
 /// What follows the first byte of a text.
@@ -301,9 +300,12 @@ impl Sources {
 
     /// The place of the text of a path.
     fn place_of(&self, path: &[u8]) -> Option<usize> {
-        self.all
-            .iter()
-            .position(|source| source.path.as_slice() == path)
+        for (place, source) in self.all.iter().enumerate() {
+            if source.path.as_slice() == path {
+                return Some(place);
+            }
+        }
+        None
     }
 
     /// Refuses texts that use one another in a circle: those that are left where one after the other is taken away that uses
@@ -336,8 +338,12 @@ impl Sources {
 
     /// Whether an open text uses this one.
     fn is_used_within(&self, open: &[bool], source: usize) -> bool {
-        self.edges.iter().any(|edge| edge.to == source
-            && open.get(edge.place.source).copied() == Some(true))
+        for edge in &self.edges {
+            if edge.to == source && open.get(edge.place.source).copied() == Some(true) {
+                return true;
+            }
+        }
+        false
     }
 
     /// Where a text uses an open one, if it does.

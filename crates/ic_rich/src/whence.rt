@@ -55,21 +55,22 @@ fn blanks_before(text: &[u8]) -> usize {
 
 /// A text without the blanks at its end.
 fn without_end(text: &[u8]) -> &[u8] {
-    match text.iter().rposition(|byte| !is_blank(*byte)) {
-        Some(place) => part_of(text, 0, place.saturating_add(1)),
-        None => part_of(text, 0, 0),
+    for place in (0..text.len()).rev() {
+        if !is_blank(text[place]) {
+            return part_of(text, 0, place.saturating_add(1));
+        }
     }
+    part_of(text, 0, 0)
 }
 
 /// What stands before the `;` or `}` that ends a rule, and whether it is a `;`.
 fn rule_of(text: &[u8]) -> (&[u8], bool) {
-    match text.iter().position(|byte| *byte == b';' || *byte == b'}') {
-        Some(place) => (
-            part_of(text, 0, place),
-            text.get(place).copied() == Some(b';'),
-        ),
-        None => (text, false),
+    for (place, byte) in text.iter().enumerate() {
+        if *byte == b';' || *byte == b'}' {
+            return (part_of(text, 0, place), *byte == b';');
+        }
     }
+    (text, false)
 }
 
 /// Whether a rule of a plain text is the one of a text, or the first one of a line such as `copy Dup`.

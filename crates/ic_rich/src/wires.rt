@@ -69,9 +69,11 @@ fn partners_of(alloc: Global, tokens: &[Token], arrow: usize) -> Result<Vec<usiz
                 Some(_) if place < arrow => {
                     return Err(WireReason::TwiceLeft.at(token.at));
                 }
-                Some(first) => note_again(&mut partners, first, place, first < arrow).map_err(
-                    |reason| reason.at(token.at),
-                )?,
+                Some(first) => {
+                    if let Err(reason) = note_again(&mut partners, first, place, first < arrow) {
+                        return Err(reason.at(token.at));
+                    }
+                }
             }
         }
     }
@@ -115,7 +117,10 @@ fn note_across(across: &mut [Option<Across>], tokens: &[Token], term: Span, entr
 
 /// The place in the text at which a term begins.
 fn begin_of(tokens: &[Token], term: Span) -> usize {
-    tokens.get(term.from).map_or(0, |token| token.at)
+    match tokens.get(term.from) {
+        Some(token) => token.at,
+        None => 0,
+    }
 }
 
 /// For each token what stands across from it. Two agents that meet are refused.
@@ -192,7 +197,12 @@ impl Wires {
 
     /// The first equation that no wire of the left side has passed.
     fn first_left(&self) -> Option<usize> {
-        self.passed.iter().position(|passed| !*passed)
+        for (place, passed) in self.passed.iter().enumerate() {
+            if !*passed {
+                return Some(place);
+            }
+        }
+        None
     }
 
     /// Refuses equations that no wire of the left side has passed. Two agents meet there, or a wire leads round.
@@ -210,9 +220,10 @@ impl Wires {
                 return Err(WireReason::Meeting.at(at));
             }
         }
-        let at = equations
-            .get(first)
-            .map_or(0, |it| begin_of(tokens, it.left));
+        let at = match equations.get(first) {
+            Some(equation) => begin_of(tokens, equation.left),
+            None => 0,
+        };
         Err(WireReason::Circle.at(at))
     }
 

@@ -30,7 +30,10 @@ pub fn tell<W: Write>(alloc: Global, runs: &[ClientRun], writer: &mut W) -> Resu
     for (place, run) in runs.iter().enumerate() {
         tell_client(alloc, place, run, writer)?;
     }
-    writer.flush().map_err(|_| ScriptsFault::Write)
+    match writer.flush() {
+        Ok(()) => Ok(()),
+        Err(_) => Err(ScriptsFault::Write),
+    }
 }
 
 /// Writes what a client was answered, after its number.
@@ -114,5 +117,8 @@ fn write_bytes<W: Write>(writer: &mut W, bytes: &[u8]) -> Result<(), ScriptsFaul
         (AppendsFront (W.contents writer.old) (W.contents writer.new) [] bytes.now) }
     ensures fault { IfErr result (λ fault. fault ≡ ScriptsFault.Write) }
 {
-    write_whole(writer, bytes).map_err(|_| ScriptsFault::Write)
+    match write_whole(writer, bytes) {
+        Ok(()) => Ok(()),
+        Err(_) => Err(ScriptsFault::Write),
+    }
 }

@@ -77,5 +77,8 @@ pub fn write_line<W: Write>(writer: &mut W, line: &[u8]) -> Result<(), StreamFau
         (AppendsFront (W.contents writer.old) (W.contents writer.new) [] line.now) }
     ensures refused { IfErr result (λ fault. fault ≡ StreamFault.Write) }
 {
-    write_flushed(writer, line).map_err(|_| StreamFault::Write)
+    match write_flushed(writer, line) {
+        Ok(()) => Ok(()),
+        Err(_) => Err(StreamFault::Write),
+    }
 }

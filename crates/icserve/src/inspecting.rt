@@ -66,7 +66,9 @@ fn inspect_kept(
 
 /// Reads the slots of the file and then their heads again, and prints what it holds, if both times are alike.
 fn look(rt: &HostRuntime, path: &str, layout: Layout, notes: &Notes) -> Result<bool, Failure> {
-    let file = open_to_read(rt, path, notes).map_err(|_| Failure::Disk(DiskFault))?;
+    let Ok(file) = open_to_read(rt, path, notes) else {
+        return Err(Failure::Disk(DiskFault));
+    };
     let (mut first, mut second) = (file.at(0), file.at(SECOND_AT));
     let slots = read_slots(rt.alloc(), &mut first, &mut second).map_err(Failure::Inspect)?;
     let (mut first, mut second) = (file.at(0), file.at(SECOND_AT));

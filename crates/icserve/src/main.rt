@@ -47,7 +47,7 @@ use ic_progress::{Progress, WipedFirst};
 use ic_scripts::{ScriptsFault, attend_scripts};
 use ic_serving::{PAGE_WEIGHT, ServeFault, serve_watched};
 use ic_slots::is_unused;
-use ic_streams::StreamFault;
+use ic_streams::{StreamFault, write_line};
 use std::alloc::AllocError;
 use std::env;
 use std::io::{self, BufWriter, ErrorKind, IsTerminal, Read, Write};
@@ -150,7 +150,10 @@ fn attend<T: Threads + Wait + Sync>(
     if matches!(given, Err(ScriptsFault::Book(BookFault::LogFull))) {
         let _ = told.extend_from_slice(scripts::FULL);
     }
-    given.map_err(|fault| Failure::Attend(scripts::behind(fault)))
+    match given {
+        Ok(()) => Ok(()),
+        Err(fault) => Err(Failure::Attend(scripts::behind(fault))),
+    }
 }
 
 /// The words after the program's name.
@@ -202,14 +205,19 @@ pub(crate) fn open_disk_as<'a>(
     create: bool,
     notes: &'a Notes,
 ) -> Result<NotedDisk<'a>, Failure> {
-    let _stand_ins = stand_ins(rt, notes).map_err(|_| Failure::Disk(DiskFault))?;
+    let Ok(_stand_ins) = stand_ins(rt, notes) else {
+        return Err(Failure::Disk(DiskFault));
+    };
     let files = NotedFiles {
         rt,
         path,
         target,
         notes,
     };
-    FileDisk::open(&files, path, create).map_err(|fault| opening_failure(fault, notes.last()))
+    match FileDisk::open(&files, path, create) {
+        Ok(disk) => Ok(disk),
+        Err(fault) => Err(opening_failure(fault, notes.last())),
+    }
 }
 
 /// Puts the empty table on a disk. What stands there and would be lost is overwritten only where that is asked for. Where
@@ -450,10 +458,7 @@ fn give_over<T: Threads + Wait + Sync, D: Disk + Send + Drop, G: Gate, W: Write>
 
 /// Writes a text.
 fn show<W: Write>(output: &mut W, text: &str) -> Result<(), StreamFault> {
-    output
-        .write_all(text.as_bytes())
-        .map_err(|_| StreamFault::Write)?;
-    output.flush().map_err(|_| StreamFault::Write)
+    write_line(output, text.as_bytes())
 }
 
 /// Writes the line of a failure to standard error, or that there is no memory for it, and after it

@@ -105,7 +105,10 @@ fn is_stranger(rt: &HostRuntime, path: &str) -> bool {
 
 /// Whether the first byte of a file that begins with these bytes is no gate.
 fn has_no_gate(front: &[u8]) -> bool {
-    front.first().is_some_and(|gate| *gate > 1)
+    match front.first() {
+        Some(gate) => *gate > 1,
+        None => false,
+    }
 }
 
 /// Whether no keep has written the numbers of a head in a file that begins with these bytes: one of them would be 2^56 or more.
@@ -116,7 +119,10 @@ fn has_no_numbers(front: &[u8]) -> bool {
 
 /// Whether another byte than zero stands at this place.
 fn is_set(front: &[u8], at: usize) -> bool {
-    front.get(at).is_some_and(|byte| *byte > 0)
+    match front.get(at) {
+        Some(byte) => *byte > 0,
+        None => false,
+    }
 }
 
 /// Whether the first slot of a disk that begins with these bytes holds a table of jobs.
@@ -169,9 +175,17 @@ pub(crate) fn other_second(rt: &HostRuntime, path: &str) -> Option<Vec<u8>> {
 
 /// Whether a file that begins with these bytes is a text: its characters are blanks, or printed. The last of them may be cut.
 fn is_of_text(front: &[u8]) -> bool {
-    !front.is_empty()
-        && front.iter().all(|byte| is_of_texts(*byte))
-        && (0..4).any(|cut| is_utf8(&front[..front.len().saturating_sub(cut)]))
+    for byte in front {
+        if !is_of_texts(*byte) {
+            return false;
+        }
+    }
+    for cut in 0..4 {
+        if is_utf8(&front[..front.len().saturating_sub(cut)]) {
+            return true;
+        }
+    }
+    false
 }
 
 /// Whether bytes are some characters of UTF-8.

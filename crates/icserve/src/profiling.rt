@@ -162,7 +162,11 @@ fn is_missing(rt: &HostRuntime, path: &str) -> bool {
 
 /// That rounds aren't written. Why that fails is appended to `told`; of standard output that is told anyway.
 fn unwritten(rt: &HostRuntime, path: &str, cause: Option<Cause>, told: &mut Vec<u8>) -> Failure {
-    if cause.is_some_and(|cause| cause.target != Target::Output) {
+    let is_told = match cause {
+        Some(cause) => cause.target == Target::Output,
+        None => true,
+    };
+    if !is_told {
         if let Ok(lines) = cause_line(rt.alloc(), path.as_bytes(), cause) {
             *told = lines;
         }

@@ -102,7 +102,10 @@ fn open_one<'a>(
 /// Writes an empty head: nothing is kept there.
 fn shut(disk: &mut NotedDisk<'_>) -> Result<(), Failure> {
     let done: Result<(), DiskFault> = write_synced(disk, 0, &[0; HEAD as usize]);
-    done.map_err(|_| Failure::Kept(KeepingFault::Device))
+    match done {
+        Ok(()) => Ok(()),
+        Err(_) => Err(Failure::Kept(KeepingFault::Device)),
+    }
 }
 
 /// Tells which file was made anew, and whether anything is lost by that.

@@ -73,10 +73,12 @@ pub(crate) fn line_of(text: &[u8], number: usize) -> &[u8] {
 
 /// The first line of a text, and what follows its line feed.
 fn split_line(text: &[u8]) -> (&[u8], &[u8]) {
-    match text.iter().position(|byte| *byte == b'\n') {
-        Some(place) => (&text[..place], &text[place + 1..]),
-        None => (text, &text[text.len()..]),
+    for (place, byte) in text.iter().enumerate() {
+        if *byte == b'\n' {
+            return (&text[..place], &text[place + 1..]);
+        }
     }
+    (text, &text[text.len()..])
 }
 
 /// How many commands and turns these scripts and runners come to at most.

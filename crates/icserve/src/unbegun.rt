@@ -44,9 +44,14 @@ fn may_be_first(front: &[u8]) -> bool {
     if are_zeros(front) && front.len() <= HEAD as usize {
         return true;
     }
-    is_of_reduction(front)
-        && front.iter().take(8).all(|byte| *byte == 0)
-        && front.get(8).is_some_and(|number| *number <= 1)
+    let (number, _) = front.split_at(front.len().min(9));
+    match number.split_last() {
+        Some((last, others)) => is_of_reduction(front)
+            && number.len() == 9
+            && *last <= 1
+            && are_zeros(others),
+        None => false,
+    }
 }
 
 /// Whether a second file that begins so may be one in which nothing is kept yet: it has no more than an empty head.
@@ -55,7 +60,12 @@ fn may_be_second(front: &[u8]) -> bool {
 }
 
 fn are_zeros(bytes: &[u8]) -> bool {
-    bytes.iter().all(|byte| *byte == 0)
+    for byte in bytes {
+        if *byte != 0 {
+            return false;
+        }
+    }
+    true
 }
 
 /// Takes all bytes out of the file of this path. This process has it locked.
@@ -65,7 +75,10 @@ pub(crate) fn empty(
     target: Target,
     notes: &Notes,
 ) -> Result<(), Failure> {
-    cut(rt, path, target, notes).map_err(|_| Failure::Kept(KeepingFault::Device))
+    match cut(rt, path, target, notes) {
+        Ok(()) => Ok(()),
+        Err(_) => Err(Failure::Kept(KeepingFault::Device)),
+    }
 }
 
 /// The same, unless a call fails. A file that has no bytes isn't touched.

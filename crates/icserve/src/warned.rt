@@ -2,7 +2,7 @@
 
 use ic_check::{Layout, put_warning};
 use ic_expand::{Borrowed, Pair, Remarks};
-use ic_output::write_whole;
+use ic_output::write_flushed;
 use ic_streams::StreamFault;
 use std::alloc::{AllocError, Global};
 use std::io::Write;
@@ -30,12 +30,29 @@ fn before_end<'a>(line: &'a [u8], end: &[u8]) -> Option<&'a [u8]> {
 fn unused_pair(line: &[u8]) -> Option<(&[u8], &[u8])> {
     let line = before_end(line, b"\"}".as_slice()).unwrap_or(line);
     let line = before_end(line, b", is never used".as_slice())?;
-    let from = line.iter().rposition(|byte| *byte == b' ')?;
-    let (_, pair) = line.split_at(from.saturating_add(1).min(line.len()));
-    let at = pair.iter().position(|byte| *byte == b'>')?;
-    let (one, rest) = pair.split_at(at.min(pair.len()));
-    let (_, other) = rest.split_at(rest.len().min(2));
-    Some((one, other))
+    sides_of(last_word(line))
+}
+
+/// What follows the last blank of a line.
+fn last_word(line: &[u8]) -> &[u8] {
+    for place in (0..line.len()).rev() {
+        if line[place] == b' ' {
+            return &line[place + 1..];
+        }
+    }
+    &[]
+}
+
+/// The two symbols of a pair such as `A><B`.
+fn sides_of(pair: &[u8]) -> Option<(&[u8], &[u8])> {
+    for (place, byte) in pair.iter().enumerate() {
+        if *byte == b'>' {
+            let (one, rest) = pair.split_at(place);
+            let (_, other) = rest.split_at(rest.len().min(2));
+            return Some((one, other));
+        }
+    }
+    None
 }
 
 /// Whether this may be the symbol of a side.
@@ -52,14 +69,27 @@ fn is_of(pair: &Pair, one: &[u8], other: &[u8]) -> bool {
 
 /// Whether it isn't told of a rule that it is never used: it is one of a file, or of a copier or an eraser that is told of itself.
 fn is_quiet(remarks: &Remarks, one: &[u8], other: &[u8]) -> bool {
-    let is_generic = remarks.generic.iter().any(|symbol| symbol.as_slice() == one
-        || symbol.as_slice() == other);
-    is_generic || remarks.borrowed.iter().any(|it| has_rule(it, one, other))
+    for symbol in &remarks.generic {
+        if symbol.as_slice() == one || symbol.as_slice() == other {
+            return true;
+        }
+    }
+    for borrowed in &remarks.borrowed {
+        if has_rule(borrowed, one, other) {
+            return true;
+        }
+    }
+    false
 }
 
 /// Whether a rule with these two symbols comes by a `use`.
 fn has_rule(borrowed: &Borrowed, one: &[u8], other: &[u8]) -> bool {
-    borrowed.pairs.iter().any(|pair| is_of(pair, one, other))
+    for pair in &borrowed.pairs {
+        if is_of(pair, one, other) {
+            return true;
+        }
+    }
+    false
 }
 
 /// Whether some line tells of a rule with the symbols of a pair that it is never used.
@@ -107,7 +137,7 @@ pub(crate) fn put_rich<W: Write>(
     output: &mut W,
 ) -> Result<bool, StreamFault> {
     let lines = lines_of(alloc, findings)?;
-    let remarks = remarks_in(alloc, told, &lines)?;
+    let mut remarks = remarks_in(alloc, told, &lines)?;
     let mut plain = Vec::new(alloc);
     for line in &lines {
         let is_left_out = match unused_pair(line) {
@@ -119,10 +149,11 @@ pub(crate) fn put_rich<W: Write>(
             plain.push(b'\n')?;
         }
     }
-    write_whole(output, &remarks).map_err(|_| StreamFault::Write)?;
-    write_whole(output, &plain).map_err(|_| StreamFault::Write)?;
-    output.flush().map_err(|_| StreamFault::Write)?;
-    Ok(!plain.is_empty())
+    remarks.extend_from_slice(&plain)?;
+    match write_flushed(output, &remarks) {
+        Ok(()) => Ok(!plain.is_empty()),
+        Err(_) => Err(StreamFault::Write),
+    }
 }
 
 /// What is remarked of a rich text, of whose plain text these lines tell.
