@@ -5,7 +5,6 @@ use crate::rows::Entry;
 use crate::table::Word;
 use crate::tips::likest_first;
 use crate::words::{WordsFault, refusal_of, word_named};
-use clap::Command;
 use clap::error::{Error, ErrorKind};
 use std::alloc::{AllocError, Global};
 
@@ -317,15 +316,23 @@ pub fn help_of(alloc: Global, table: &[Entry], word: Option<&str>) -> Result<Str
 
 /// What the parser shows at words that ask for a help.
 fn shown(alloc: Global, table: &[Entry], words: &[&str]) -> Result<String, WordsFault> {
+    match error_of(alloc, table, words)? {
+        Some(error) => Ok(error.to_string(alloc)?),
+        None => Ok(String::new(alloc)),
+    }
+}
+
+/// What the parser answers words where it takes nothing from them.
+fn error_of(alloc: Global, table: &[Entry], words: &[&str]) -> Result<Option<Error>, AllocError> {
     match command(alloc, table)?.try_get_matches_from(words) {
-        Ok(_) => Ok(String::new(alloc)),
-        Err(error) => Ok(error.to_string(alloc)?),
+        Ok(_) => Ok(None),
+        Err(error) => Ok(Some(error)),
     }
 }
 
 /// The refusal of a word of which there is no help, which stands alone here.
 fn no_help(alloc: Global, table: &[Entry], words: &[&str]) -> Result<WordsFault, AllocError> {
-    let told = parsers_text(alloc, table, words)?;
+    let told = parsers_text(alloc, &with_topics(alloc, table)?, words)?;
     let front = match told.as_str().rsplit_once("\n\nUsage: ") {
         Some((front, _)) => front,
         None => "error: unrecognized subcommand",
@@ -336,15 +343,25 @@ fn no_help(alloc: Global, table: &[Entry], words: &[&str]) -> Result<WordsFault,
     Ok(refusal_of(alloc, text.as_str()))
 }
 
+/// The table, in which what else `help` tells of stands as words.
+fn with_topics(alloc: Global, table: &[Entry]) -> Result<Vec<Entry>, AllocError> {
+    let mut all = table.to_vec(alloc)?;
+    for topic in &TOPICS {
+        all.push(Entry {
+            word: Word::Help,
+            name: topic.0,
+            about: "",
+            arguments: &[],
+        })?;
+    }
+    Ok(all)
+}
+
 /// What the parser tells of words that begin with none that has a help, with those that are like it.
 fn parsers_text(alloc: Global, table: &[Entry], words: &[&str]) -> Result<String, AllocError> {
-    let mut program = command(alloc, table)?;
-    for topic in &TOPICS {
-        program = program.subcommand(Command::new(alloc, topic.0))?;
-    }
-    match program.try_get_matches_from(words) {
-        Ok(_) => Ok(String::new(alloc)),
-        Err(error) => refusal_text(alloc, &error),
+    match error_of(alloc, table, words)? {
+        Some(error) => refusal_text(alloc, &error),
+        None => Ok(String::new(alloc)),
     }
 }
 

@@ -26,7 +26,7 @@ pub enum Target {
 }
 
 /// A call to a file.
-#[derive(Clone, Copy, PartialEq, Eq)]
+#[derive(Clone, Copy)]
 pub enum FileCall {
     Open,
     Lock,
@@ -178,7 +178,7 @@ fn reason_of_number(number: u32) -> Reason
 }
 
 /// A call that failed, what it was made on, and why.
-#[derive(Clone, Copy, PartialEq, Eq)]
+#[derive(Clone, Copy)]
 pub struct Cause {
     pub target: Target,
     pub call: FileCall,

@@ -36,7 +36,7 @@ pub enum Given {
 }
 
 /// What was found of files, the worst last.
-#[derive(Clone, Copy, PartialEq, Eq)]
+#[derive(Clone, Copy)]
 pub enum Verdict {
     Fine,
     Faulty,

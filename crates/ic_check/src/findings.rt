@@ -6,7 +6,7 @@ use ic_text::{TextFault, print_fault, put_decimal};
 use std::alloc::{AllocError, Global};
 
 /// How faults and warnings are told.
-#[derive(Clone, Copy, PartialEq, Eq)]
+#[derive(Clone, Copy)]
 pub enum Layout {
     /// As lines, which begin with the file's path; of it a byte that is no printable ASCII is shown as `?`.
     Lines,

@@ -61,7 +61,7 @@ pub(crate) enum LineDetail {
 }
 
 /// Where a line is refused.
-#[derive(Clone, Copy, PartialEq, Eq)]
+#[derive(Clone, Copy)]
 pub(crate) struct LinePlace {
     /// How many bytes of the line stand before the fault.
     pub at: usize,

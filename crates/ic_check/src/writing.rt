@@ -67,8 +67,5 @@ pub(crate) fn flush<W: Write>(writer: &mut W) -> Result<(), StreamFault>
     ensures grows { Grows (W.contents writer.old) (W.contents writer.new) }
     ensures sort { IfErr result (λ fault. fault ≡ StreamFault.Write) }
 {
-    match writer.flush() {
-        Ok(()) => Ok(()),
-        Err(_) => Err(StreamFault::Write),
-    }
+    writer.flush().map_err(|_| StreamFault::Write)
 }

@@ -34,22 +34,24 @@ fn arity_sentence(
     let counts = format!(in alloc; " has {here} here and {before} where it stands first")?;
     sentence.extend_from_slice(counts.as_bytes())?;
     if let Some(place) = first_place(symbol, front) {
-        put_distance(alloc, &front[place.min(front.len())..], &mut sentence)?;
+        put_distance(&front[place.min(front.len())..], &mut sentence)?;
     }
     Ok(sentence)
 }
 
 /// Appends how far before a place another one is, by the text from that one on: in lines, or within a line in columns.
-fn put_distance(alloc: Global, between: &[u8], sentence: &mut Vec<u8>) -> Result<(), AllocError> {
+fn put_distance(between: &[u8], sentence: &mut Vec<u8>) -> Result<(), AllocError> {
     let lines = line_number(between).saturating_sub(1);
     let columns = column(between).saturating_sub(1);
-    let distance = match (lines, columns) {
-        (0, 1) => format!(in alloc; ", 1 column before")?,
-        (0, _) => format!(in alloc; ", {columns} columns before")?,
-        (1, _) => format!(in alloc; ", 1 line before")?,
-        (_, _) => format!(in alloc; ", {lines} lines before")?,
+    let (count, unit) = match (lines, columns) {
+        (0, 1) => (1, b" column before".as_slice()),
+        (0, _) => (columns, b" columns before".as_slice()),
+        (1, _) => (1, b" line before".as_slice()),
+        (_, _) => (lines, b" lines before".as_slice()),
     };
-    sentence.extend_from_slice(distance.as_bytes())
+    sentence.extend_from_slice(b", ")?;
+    put_decimal(count as u64, sentence)?;
+    sentence.extend_from_slice(unit)
 }
 
 /// What is amiss where the name at a place doesn't stand in its rule twice.
@@ -97,7 +99,7 @@ fn twice_sentence(alloc: Global, text: &[u8], at: usize) -> Result<Vec<u8>, Allo
     let (number, place) = same_before(text, at).unwrap_or((0, 0));
     let mut sentence = Vec::from_slice(alloc, b"rule ")?;
     put_decimal(number, &mut sentence)?;
-    put_distance(alloc, &front[place.min(front.len())..], &mut sentence)?;
+    put_distance(&front[place.min(front.len())..], &mut sentence)?;
     sentence.extend_from_slice(b", is of the same two symbols")?;
     Ok(sentence)
 }

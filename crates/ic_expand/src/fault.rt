@@ -29,7 +29,7 @@ pub enum Reason {
 }
 
 /// Why a text isn't expanded.
-#[derive(Clone, Copy, PartialEq, Eq)]
+#[derive(Clone, Copy)]
 pub enum ExpandFault {
     /// It is refused, at this place of the text without its comments.
     Refused(Reason, usize),

@@ -13,7 +13,7 @@ use ic_text::{is_numeral, put_name};
 use std::alloc::{AllocError, Global};
 
 /// How a name is spelt.
-#[derive(Clone, Copy, PartialEq, Eq)]
+#[derive(Clone, Copy)]
 pub(crate) enum Spelling {
     /// As a name of the calculus is.
     Short,

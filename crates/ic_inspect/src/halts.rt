@@ -7,7 +7,7 @@ use ic_round::RoundFault;
 use std::alloc::{AllocError, Global};
 
 /// Why no further round of a job can be made.
-#[derive(Clone, Copy, PartialEq, Eq)]
+#[derive(Clone, Copy)]
 pub enum Halt {
     /// As many are made as a job can make.
     Rounds,

@@ -4,7 +4,7 @@ use crate::net::{Agent, Net, Wire};
 use crate::port::Port;
 use ic_rules::RuleSet;
 use ic_term::Symbols;
-use ic_text::put_name;
+use ic_text::{put_decimal, put_name};
 use std::alloc::{AllocError, Global};
 
 /// A net as a graph: a vertex for each agent, with its ports in order, and an edge for each wire.
@@ -17,9 +17,9 @@ pub fn dot(alloc: Global, rules: &RuleSet, net: &Net) -> Result<Vec<u8>, AllocEr
     let has_rules = !rules.rules().is_empty();
     let mut out = Vec::new(alloc);
     put_head(&mut out)?;
-    put_agents(alloc, rules.symbols(), &net.agents, &mut out)?;
-    put_joints(alloc, net.joints, &mut out)?;
-    put_wires(alloc, &net.wires, has_rules, &mut out)?;
+    put_agents(rules.symbols(), &net.agents, &mut out)?;
+    put_joints(net.joints, &mut out)?;
+    put_wires(&net.wires, has_rules, &mut out)?;
     out.extend_from_slice(b"}\n")?;
     Ok(out)
 }
@@ -30,19 +30,13 @@ fn put_head(out: &mut Vec<u8>) -> Result<(), AllocError> {
         b"graph net {\n\
           node [shape=plaintext, width=0, height=0]\n\
           edge [arrowsize=0.7]\n",
-    )?;
-    Ok(())
+    )
 }
 
 /// Appends the vertices of agents.
-fn put_agents(
-    alloc: Global,
-    symbols: &Symbols,
-    agents: &[Agent],
-    out: &mut Vec<u8>,
-) -> Result<(), AllocError> {
-    for number in 0..agents.len() {
-        put_agent(alloc, symbols, number, &agents[number], out)?;
+fn put_agents(symbols: &Symbols, agents: &[Agent], out: &mut Vec<u8>) -> Result<(), AllocError> {
+    for (number, agent) in agents.iter().enumerate() {
+        put_agent(symbols, number, agent, out)?;
     }
     Ok(())
 }
@@ -58,120 +52,85 @@ fn text_of(symbols: &Symbols, sym: u32) -> &[u8] {
 
 /// Appends the vertex of an agent.
 fn put_agent(
-    alloc: Global,
     symbols: &Symbols,
     number: usize,
     agent: &Agent,
     out: &mut Vec<u8>,
 ) -> Result<(), AllocError> {
-    put_agent_head(alloc, number, out)?;
+    put_numbered(b"A", number, out)?;
+    out.extend_from_slice(b" [shape=record, label=\"{<0>")?;
     out.extend_from_slice(text_of(symbols, agent.sym))?;
-    put_ports(alloc, agent.arity, out)?;
-    out.extend_from_slice(b"}\"]\n")?;
-    Ok(())
+    put_ports(agent.arity, out)?;
+    out.extend_from_slice(b"}\"]\n")
 }
 
-/// Appends what stands before the symbol of an agent.
-fn put_agent_head(alloc: Global, number: usize, out: &mut Vec<u8>) -> Result<(), AllocError> {
-    let head = format!(in alloc; "A{number} [shape=record, label=\"{{<0>")?;
-    out.extend_from_slice(head.as_bytes())?;
-    Ok(())
+/// Appends a text and a number in digits.
+fn put_numbered(text: &[u8], number: usize, out: &mut Vec<u8>) -> Result<(), AllocError> {
+    out.extend_from_slice(text)?;
+    put_decimal(number as u64, out)
 }
 
-/// Appends the auxiliary ports of an agent.
-fn put_ports(alloc: Global, arity: usize, out: &mut Vec<u8>) -> Result<(), AllocError> {
-    put_cells(alloc, arity, arity, out)?;
+/// Appends the auxiliary ports of an agent, in order.
+fn put_ports(arity: usize, out: &mut Vec<u8>) -> Result<(), AllocError> {
+    for i in 0..arity {
+        put_cell(arity, i + 1, out)?;
+    }
     if arity > 0 {
         out.push(b'}')?;
     }
     Ok(())
 }
 
-/// Appends the first `count` of `arity` ports in order.
-fn put_cells(
-    alloc: Global,
-    arity: usize,
-    count: usize,
-    out: &mut Vec<u8>,
-) -> Result<(), AllocError> {
-    for i in 0..count {
-        put_cell(alloc, arity, i + 1, out)?;
-    }
-    Ok(())
-}
-
-/// Appends the auxiliary port with this number, of so many.
-fn put_cell(alloc: Global, arity: usize, port: usize, out: &mut Vec<u8>) -> Result<(), AllocError> {
-    put_place(alloc, port, out)?;
-    if arity > 2 {
-        let number = format!(in alloc; "{port}")?;
-        out.extend_from_slice(number.as_bytes())?;
-    }
-    Ok(())
-}
-
-/// Appends the place of the auxiliary port with this number.
-fn put_place(alloc: Global, port: usize, out: &mut Vec<u8>) -> Result<(), AllocError> {
-    let cell = if port == 1 {
-        format!(in alloc; "|{{<{port}>")?
+/// Appends the auxiliary port with this number, of so many: its place, and its number where there are more than two.
+fn put_cell(arity: usize, port: usize, out: &mut Vec<u8>) -> Result<(), AllocError> {
+    let opening = if port == 1 {
+        b"|{<".as_slice()
     } else {
-        format!(in alloc; "|<{port}>")?
+        b"|<".as_slice()
     };
-    out.extend_from_slice(cell.as_bytes())?;
-    Ok(())
+    put_numbered(opening, port, out)?;
+    if arity > 2 {
+        put_numbered(b">", port, out)
+    } else {
+        out.extend_from_slice(b">")
+    }
 }
 
 /// Appends the points of so many equations of two names.
-fn put_joints(alloc: Global, joints: usize, out: &mut Vec<u8>) -> Result<(), AllocError> {
+fn put_joints(joints: usize, out: &mut Vec<u8>) -> Result<(), AllocError> {
     for joint in 0..joints {
-        put_joint(alloc, joint, out)?;
+        put_numbered(b"J", joint, out)?;
+        out.extend_from_slice(b" [shape=point, width=0.05, height=0.05]\n")?;
     }
-    Ok(())
-}
-
-/// Appends the point of an equation of two names.
-fn put_joint(alloc: Global, joint: usize, out: &mut Vec<u8>) -> Result<(), AllocError> {
-    let line = format!(in alloc; "J{joint} [shape=point, width=0.05, height=0.05]\n")?;
-    out.extend_from_slice(line.as_bytes())?;
     Ok(())
 }
 
 /// Appends the edges of wires.
-fn put_wires(
-    alloc: Global,
-    wires: &[Wire],
-    has_rules: bool,
-    out: &mut Vec<u8>,
-) -> Result<(), AllocError> {
+fn put_wires(wires: &[Wire], has_rules: bool, out: &mut Vec<u8>) -> Result<(), AllocError> {
     for wire in wires {
-        put_wire(alloc, wire, has_rules, out)?;
+        put_wire(wire, has_rules, out)?;
     }
     Ok(())
 }
 
 /// Appends the edge of a wire.
-fn put_wire(
-    alloc: Global,
-    wire: &Wire,
-    has_rules: bool,
-    out: &mut Vec<u8>,
-) -> Result<(), AllocError> {
-    put_end(alloc, wire, wire.from, out)?;
+fn put_wire(wire: &Wire, has_rules: bool, out: &mut Vec<u8>) -> Result<(), AllocError> {
+    put_end(wire, wire.from, out)?;
     out.extend_from_slice(b" -- ")?;
-    put_end(alloc, wire, wire.to, out)?;
+    put_end(wire, wire.to, out)?;
     out.extend_from_slice(style_of(wire, has_rules))?;
-    out.push(b'\n')?;
-    Ok(())
+    out.extend_from_slice(b"\n")
 }
 
 /// Appends an end of a wire: the port and, where both ends are at one agent, the side of its box.
-fn put_end(alloc: Global, wire: &Wire, port: Port, out: &mut Vec<u8>) -> Result<(), AllocError> {
-    put_port(alloc, port, out)?;
-    if is_loop(wire) {
-        out.push(b':')?;
-        out.push(if is_principal(port) { b'n' } else { b's' })?;
-    }
-    Ok(())
+fn put_end(wire: &Wire, port: Port, out: &mut Vec<u8>) -> Result<(), AllocError> {
+    put_port(port, out)?;
+    let side = match (is_loop(wire), is_principal(port)) {
+        (false, _) => b"".as_slice(),
+        (true, true) => b":n".as_slice(),
+        (true, false) => b":s".as_slice(),
+    };
+    out.extend_from_slice(side)
 }
 
 /// Whether both ends of a wire are at one agent.
@@ -219,15 +178,18 @@ fn is_principal(port: Port) -> bool {
 }
 
 /// Appends a port, as an edge names it.
-fn put_port(alloc: Global, port: Port, out: &mut Vec<u8>) -> Result<(), AllocError> {
-    let text = match port {
-        Port::Interface(place) => format!(in alloc; "I{place}")?,
-        Port::Principal(agent) => format!(in alloc; "A{agent}:0")?,
-        Port::Auxiliary(agent, port) => format!(in alloc; "A{agent}:{port}")?,
-        Port::Left(joint) => format!(in alloc; "J{joint}")?,
-        Port::Right(joint) => format!(in alloc; "J{joint}")?,
-        Port::Free(name) => return put_name(name, out),
-    };
-    out.extend_from_slice(text.as_bytes())?;
-    Ok(())
+fn put_port(port: Port, out: &mut Vec<u8>) -> Result<(), AllocError> {
+    match port {
+        Port::Interface(place) => put_numbered(b"I", place, out),
+        Port::Principal(agent) => put_agents_port(agent, 0, out),
+        Port::Auxiliary(agent, port) => put_agents_port(agent, port, out),
+        Port::Left(joint) | Port::Right(joint) => put_numbered(b"J", joint, out),
+        Port::Free(name) => put_name(name, out),
+    }
+}
+
+/// Appends the port of an agent with this number, from 0.
+fn put_agents_port(agent: usize, port: usize, out: &mut Vec<u8>) -> Result<(), AllocError> {
+    put_numbered(b"A", agent, out)?;
+    put_numbered(b":", port, out)
 }

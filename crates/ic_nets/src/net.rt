@@ -11,14 +11,14 @@ use ic_term::Config;
 use std::alloc::{AllocError, Global};
 
 /// An agent: the number of its symbol, and how many auxiliary ports it has.
-#[derive(Clone, Copy, PartialEq, Eq)]
+#[derive(Clone, Copy)]
 pub struct Agent {
     pub sym: u32,
     pub arity: usize,
 }
 
 /// A wire between two ports, and whether it joins the agents of an active pair.
-#[derive(Clone, Copy, PartialEq, Eq)]
+#[derive(Clone, Copy)]
 pub struct Wire {
     pub from: Port,
     pub to: Port,

@@ -1,7 +1,7 @@
 //! Ports: where wires end.
 
 /// A port, at which a wire ends.
-#[derive(Clone, Copy, PartialEq, Eq)]
+#[derive(Clone, Copy)]
 pub enum Port {
     /// A place of the interface, counted from 1.
     Interface(usize),
