@@ -11,5 +11,6 @@ pub mod HeadLemmas
 pub mod PutWords
 pub mod StackedSpans
 pub mod WrittenSpans
+pub mod RunWords
 pub mod BoundEntries
 pub mod PlaceLemmas

@@ -3,6 +3,7 @@ pub mod Room
 pub mod RuleWords
 pub mod Limits
 pub mod Heads
+pub mod Bindings
 pub mod Waits
 pub mod Rebuilding
 pub mod Activity

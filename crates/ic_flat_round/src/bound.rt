@@ -1,31 +1,78 @@
 //! Names that are bound to places of terms while a configuration is settled.
 
-ghost use Rattle.std.specs.Prelude.{◌≡◌, ◌==◌, ℕ, ◌<◌, None, Some, IfNone, OnOk, length, nat_eq, if◌then◌else◌};
-ghost use Rattle.std.specs.Ordering.{nat_cmp};
+ghost use Rattle.std.specs.Prelude.{◌≡◌, ◌==◌, ◌+◌, ℕ, ◌<◌, [], None, Some, IfNone, OnOk, is_some, length, nat_eq, sum_by, if◌then◌else◌};
 ghost use Rattle.std.specs.Map.{lookup, remove_entry};
-ghost use Rattle.std.specs.BTreeMap.{insert_entry};
 ghost use Rattle.ic_settle.specs.lemmas.Waiting.{Resolves};
 ghost use Rattle.ic_flat.specs.Words.{IsWhole};
 ghost use Rattle.ic_flat_rules.specs.Standing.{tree_at};
 ghost use Rattle.ic_flat_round.specs.inner.Waits.{waiting, AreWithin};
 
 use ic_flat::Word;
-use std::alloc::AllocError;
+use std::alloc::{AllocError, Global};
 use std::collections::BTreeMap;
+use std::marker::Model;
 
 /// The places of the terms that wait until the names that they stand for are met. Each such name is met at most once,
-/// so it is taken out then. It is a tree, so that no names can be chosen that are slow to find.
-pub(crate) type Bound = BTreeMap<u64, usize>;
+/// so it is taken out then. Most often it is the one that was bound last, which stands apart. The others are in a tree,
+/// so that no names can be chosen that are slow to find.
+#[derive(Drop)]
+pub(crate) struct Bound {
+    last: Option<(u64, usize)>,
+    others: BTreeMap<u64, usize>,
+}
 
-/// Binds a name to a place.
+impl Model for Bound {
+    ghost use Rattle.std.specs.Prelude.{◌≡◌, ◌++◌, None, IfSome, nat_eq};
+    ghost use Rattle.std.specs.Option.{option_to_list};
+    ghost use Rattle.std.specs.Map.{lookup};
+    ghost use Rattle.ic_flat_round.specs.inner.Bindings.{Bindings};
+
+    ghost Value = { Bindings };
+
+    ghost view = { λ b. record { entries = option_to_list b.last ++ b.others.entries } };
+
+    ghost invariant = { λ b. IfSome b.last (λ e. lookup (nat_eq e.0) b.others.entries ≡ None) };
+}
+
+impl Bound {
+    /// No names. Takes no memory.
+    pub(crate) fn new(alloc: Global) -> Bound {
+        Bound {
+            last: None,
+            others: BTreeMap::new(alloc),
+        }
+    }
+
+    /// Takes all names out.
+    pub(crate) fn clear(&mut self)
+        ensures empty { self.new.entries ≡ [] }
+    {
+        self.last = None;
+        if !self.others.is_empty() {
+            self.others.clear();
+        }
+    }
+}
+
+/// Binds a name to a place that isn't bound.
 pub(crate) fn bind(bound: &mut Bound, name: u64, place: usize) -> Result<(), AllocError>
+    requires { lookup (nat_eq name) bound.old.entries ≡ None }
     ensures updates { OnOk result ((y : ℕ) → lookup (nat_eq y) bound.new.entries
         ≡ (if name == y then Some place else lookup (nat_eq y) bound.old.entries)) }
-    ensures entries { OnOk result
-        (bound.new.entries ≡ insert_entry nat_cmp bound.old.entries name place) }
+    ensures sums { OnOk result ((f : ℕ → ℕ) → sum_by (λ e. f e.1) bound.new.entries
+        ≡ sum_by (λ e. f e.1) bound.old.entries + f place) }
 {
-    bound.insert(name, place)?;
-    Ok(())
+    match bound.last {
+        None => {
+            bound.last = Some((name, place));
+            Ok(())
+        }
+        Some((other, there)) => {
+            bound.others.insert(other, there)?;
+            bound.last = Some((name, place));
+            Ok(())
+        }
+    }
 }
 
 /// What a name is bound to, which is taken out.
@@ -36,7 +83,25 @@ pub(crate) fn unbound(bound: &mut Bound, name: u64) -> Option<usize>
     ensures entries { bound.new.entries ≡ remove_entry (nat_eq name) bound.old.entries }
     ensures unchanged { IfNone result (bound.new.entries ≡ bound.old.entries) }
 {
-    bound.remove(&name)
+    match bound.last {
+        Some((last, place)) if last == name => {
+            bound.last = None;
+            Some(place)
+        }
+        Some(_) => bound.others.remove(&name),
+        None => bound.others.remove(&name),
+    }
+}
+
+/// Whether a name is bound.
+pub(crate) fn is_bound(bound: &Bound, name: u64) -> bool
+    ensures { result ≡ is_some (lookup (nat_eq name) bound.now.entries) }
+{
+    match bound.last {
+        Some((last, _)) if last == name => true,
+        Some(_) => bound.others.contains_key(&name),
+        None => bound.others.contains_key(&name),
+    }
 }
 
 /// The place of the term that stands for the one at a place. It is the same place, unless that term is a bound name:

@@ -1,13 +1,15 @@
 //! Terms written with what stands for their bound names in the places of these.
 
-ghost use Rattle.std.specs.Prelude.{◌≡◌, ◌+◌, ◌<◌, ◌≤◌, [], IfOk, OnOk, length, map};
+ghost use Rattle.std.specs.Prelude.{◌≡◌, ◌+◌, ◌++◌, ◌<◌, ◌≤◌, List, [], IfOk, IfSome, OnOk, length, map, sum_by};
 ghost use Rattle.std.specs.List.{AllByRecursion};
+ghost use Rattle.ic_term.specs.Tree.{nodes};
 ghost use Rattle.ic_flat.specs.Words.{IsWhole};
 ghost use Rattle.ic_flat.specs.Flat.{sides};
 ghost use Rattle.ic_flat_round.specs.inner.Waits.{waiting, AreWithin, IsKeptWithin, kept_at};
-ghost use Rattle.ic_flat_round.specs.inner.Rebuilding.{IsSpan, PutsOn, span_terms, span_of, state, on_stack, effort};
+ghost use Rattle.ic_flat_round.specs.inner.Rebuilding.{IsSpan, IsRun, PutsOn, span_terms, span_of, stacked, state, on_stack, effort};
+ghost use Rattle.ic_flat_round.specs.declared.rebuilding.Span.{Span};
 
-use crate::bound::{Bound, unbound};
+use crate::bound::{Bound, is_bound, unbound};
 use crate::pass::Kept;
 use ic_flat::Word;
 use std::alloc::AllocError;
@@ -69,6 +71,71 @@ fn put_word(
     }
 }
 
+/// What is left of a span after its first word, if this word stands for itself: an agent, or a name that isn't bound.
+fn after_word(words: &[Word], span: Span, bound: &Bound) -> Option<Span>
+    requires whole { IsWhole words.now }
+    requires some { 0 < span.count }
+    requires span { IsSpan words.now span }
+    ensures next { IfSome result (λ next. next.place ≡ span.place + 1) }
+    ensures run { IfSome result (IsRun words.now bound.now.entries span) }
+{
+    let place = span.place + 1;
+    let count = span.count - 1;
+    match words[span.place] {
+        Word::Name(name) => {
+            if is_bound(bound, name) {
+                return None;
+            }
+            Some(Span { place, count })
+        }
+        Word::Agent(_, arity) => Some(Span {
+            place,
+            count: count + arity,
+        }),
+    }
+}
+
+/// What is left of a span after its first words that stand for themselves.
+fn after_words(words: &[Word], span: Span, bound: &Bound) -> Span
+    requires whole { IsWhole words.now }
+    requires span { IsSpan words.now span }
+    ensures { IsRun words.now bound.now.entries span result }
+{
+    let mut rest = span;
+    while rest.count > 0 {
+        match after_word(words, rest, bound) {
+            Some(next) => rest = next,
+            None => return rest,
+        }
+    }
+    rest
+}
+
+/// Writes the first words of a span that stand for themselves, at once, and tells what is left of it.
+fn put_words(
+    words: &[Word],
+    span: Span,
+    bound: &Bound,
+    out: &mut Vec<Word>,
+) -> Result<Span, AllocError>
+    requires whole { IsWhole words.now }
+    requires span { IsSpan words.now span }
+    ensures left { IfOk result (IsSpan words.now) }
+    ensures puts { IfOk result (λ rest. (stack : List Span)
+        → PutsOn (on_stack words.now bound.now.entries out.old.items span stack)
+        (on_stack words.now bound.now.entries out.new.items rest stack)) }
+    ensures less { IfOk result (λ rest. (stack : List Span)
+        → sum_by nodes (span_terms words.now rest ++ stacked words.now stack)
+        ≤ sum_by nodes (span_terms words.now span ++ stacked words.now stack)) }
+{
+    let rest = after_words(words, span, bound);
+    if rest.place <= span.place {
+        return Ok(rest);
+    }
+    out.extend_from_slice(&words[span.place..rest.place])?;
+    Ok(rest)
+}
+
 /// Writes a span of terms. What is left of other spans waits on the stack, which is empty before and after.
 pub(crate) fn put_terms(
     words: &[Word],
@@ -89,8 +156,9 @@ pub(crate) fn put_terms(
 {
     let mut span = span;
     loop {
-        if span.count > 0 {
-            span = put_word(words, span, bound, stack, out)?;
+        let rest = put_words(words, span, bound, out)?;
+        if rest.count > 0 {
+            span = put_word(words, rest, bound, stack, out)?;
         } else {
             match stack.pop() {
                 Some(next) => span = next,

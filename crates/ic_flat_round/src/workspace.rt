@@ -19,7 +19,6 @@ use ic_flat::{Flat, Word};
 use ic_flat_rules::FlatRules;
 use ic_round::RoundFault;
 use std::alloc::{AllocError, Global};
-use std::collections::BTreeMap;
 use std::mem;
 
 /// Lists that are kept from one round to the next, so that rounds take memory only for trees of names once they are long
@@ -41,7 +40,7 @@ impl Workspace {
             fired: Vec::new(alloc),
             settled: Vec::new(alloc),
             containers: Containers::new(alloc),
-            bound: BTreeMap::new(alloc),
+            bound: Bound::new(alloc),
             kept: Vec::new(alloc),
             stack: Vec::new(alloc),
         }

@@ -1,5 +1,5 @@
 -- For private functions: terms that are written with what stands for their bound names in the places of these.
-use Rattle.std.specs.Prelude.{◌≡◌, ℕ, ◌+◌, ◌≤◌, List, ◌++◌, length, map, reverse, take, drop, sum_by}
+use Rattle.std.specs.Prelude.{◌≡◌, ℕ, ◌+◌, ◌-◌, ◌<◌, ◌≤◌, List, ◌++◌, length, map, reverse, take, drop, sum_by}
 use Rattle.std.specs.List.{flat_map}
 use Rattle.ic_term.specs.Tree.{Tree, names, nodes}
 use Rattle.ic_settle.specs.Settling.{Binding}
@@ -57,3 +57,19 @@ PutsOn a b = (bs : List Binding) (rest : List ℕ) → IsDelayed bs a.waits (fla
 -- the nodes that are left, and those of the terms that wait
 abbrev pub effort : State → ℕ
 effort a = sum_by nodes a.left + nodes_kept a.waits
+
+-- ---- words that stand for themselves
+
+-- the words from one place up to another
+abbrev pub words_between : List Word → ℕ → ℕ → List Word
+words_between ws from to = take (to - from) (drop from ws)
+
+-- The words of a span up to those that a later one leaves stand for themselves: agents, and names that aren't bound.
+pub record IsRun (ws : List Word) (es : List (ℕ × ℕ)) (a b : Span) : Type 0 where
+  pub left : IsSpan ws b
+  pub ahead : a.place ≤ b.place
+  pub within : a.place < b.place → b.place ≤ length ws
+  pub puts : (done : List Word) (stack : List Span)
+      → PutsOn (on_stack ws es done a stack) (on_stack ws es (done ++ words_between ws a.place b.place) b stack)
+  pub less : (stack : List Span)
+      → sum_by nodes (span_terms ws b ++ stacked ws stack) ≤ sum_by nodes (span_terms ws a ++ stacked ws stack)

@@ -13,7 +13,7 @@ use Rattle.ic_flat_rules.specs.Standing.{tree_at, pairs_at}
 use Rattle.ic_flat_round.specs.inner.Waits.{waiting, AreWithin, IsKeptWithin, kept_at, other_place}
 use Rattle.ic_flat_rules.specs.lemmas.WordPlaces.{whole_words, pairs_start, twos_start, within_start, pairs_end}
 use Rattle.ic_flat_round.specs.inner.Places.{found}
-use Rattle.ic_flat_round.proofs.BoundEntries.{added_is}
+use Rattle.ic_flat_round.proofs.BoundEntries.{added_is, not_there}
 use Rattle.ic_flat_round.proofs.BoundPlaces.{within-none, within-added}
 use Rattle.ic_flat_round.proofs.StackedSpans.{all_push}
 use Rattle.ic_flat_round.proofs.HeadLemmas.{chosen_at}
@@ -56,6 +56,27 @@ loop-place-init c =
 pub sides_at-sides-requires-clause-whole : goal.sides_at-sides-requires-clause-whole
 sides_at-sides-requires-clause-whole c = whole_words c.args.flat.now c.words-words.result.now c.words-words.ensures.words
 
+pub bind-requires : goal.bind-requires
+unfolding found
+bind-requires c =
+    let flat = c.args.flat.now in
+    let ws = c.words-words.result.now in
+    let i = c.loop-place.invariant in
+    let left = c.resolved-left.result in
+    let right = c.resolved-right.result in
+    let es'' = c.resolved-right.new.bound.entries in
+    let links = c.loop-place.containers.links.items in
+    let links' = c.applicable.new.self.links.items in
+    let look = found c.loop-place.containers.places in
+    let number = c.loop-place.number in
+    let chosen = c.applicable.result in
+    let says : (r : ℕ → ℕ) → IsRoot links r → IsChosen r number look (kept_at ws (record { left = left; right = right })) links' chosen =
+    λ r root. chosen_at r number look links' chosen ws left right (Name 0) c.resolved-left.ensures.there c.resolved-right.ensures.there (c.applicable.ensures.chosen r root) in
+    not_there (tree_at ws) es'' c.in-Some.applicable.name
+    (turned-new flat ws c.loop-place.kept.items c.loop-place.bound.entries c.resolved-left.new.bound.entries es'' links links' look number (pairs_at ws c.loop-place.place)
+    c.sides_at-sides.result left right chosen i.passing c.sides_at-sides.ensures.equations c.resolved-left.ensures.resolves c.resolved-right.ensures.resolves says
+    c.in-Some.applicable c.in-Some.is)
+
 pub loop-place-preserved : goal.loop-place-preserved
 unfolding found
 loop-place-preserved c =
@@ -90,9 +111,7 @@ loop-place-preserved c =
       | in-Some+in_ok-bind-in-Some w ↦
           let a = w.in-Some.applicable in
           let after = w.bind.new.bound.entries in
-          let none = turned-new flat ws kept es es' es'' links links' look number (pairs_at ws c.loop-place.place) s left right found i.passing sides.equations
-          c.resolved-left.ensures.resolves c.resolved-right.ensures.resolves says a w.in-Some.is in
-          let added = added_is (tree_at ws) es'' after a.name w.other_place-other.result none w.in_ok-bind-in-Some.ensures.updates w.in_ok-bind-in-Some.ensures.entries in
+          let added = added_is (tree_at ws) es'' after a.name w.other_place-other.result w.in_ok-bind-in-Some.ensures.updates w.in_ok-bind-in-Some.ensures.sums in
           let turned : IsAdded (waiting ws es'') (waiting ws after) a.name (tree_at ws (other_place left right a.side)) =
           transport (λ (p : ℕ). IsAdded (waiting ws es'') (waiting ws after) a.name (tree_at ws p)) w.other_place-other.ensures added in
           let placed : w.other_place-other.result < length ws = omega (arith, w.other_place-other.ensures, other_there (length ws) left right a.side there right_there) in

@@ -5,8 +5,8 @@ use Rattle.ic_flat_round.specs.inner.Rebuilding.{IsSpan, PutsOn, span_terms, sta
 use Rattle.ic_flat_round.proofs.rebuilding.put_terms.Given as goal
 
 -- what is written so far, with what is left, is what the whole gives
-abbrev pub invariant-loop-span : goal.invariant-loop-span
-invariant-loop-span l = record {
+abbrev pub invariant-loop-rest : goal.invariant-loop-rest
+invariant-loop-rest l = record {
   span : IsSpan l.words l.span;
   stack : AllByRecursion (IsSpan l.words) l.stack.items;
   within : AreWithin l.words l.bound.entries;
@@ -16,5 +16,5 @@ invariant-loop-span l = record {
 }
 
 -- what is left to do, and the spans that wait
-abbrev pub decreases-loop-span : goal.decreases-loop-span
-decreases-loop-span l = 2 * effort (on_stack l.words l.bound.entries l.out.items l.span l.stack.items) + length l.stack.items
+abbrev pub decreases-loop-rest : goal.decreases-loop-rest
+decreases-loop-rest l = 2 * effort (on_stack l.words l.bound.entries l.out.items l.span l.stack.items) + length l.stack.items
