@@ -22,6 +22,9 @@ pub fn circle_text(
     requires whole { IsWhole words.now }
     requires counted { length (forest words.now) ≡ terms + 2 * equations }
 {
+    if equations == 0 {
+        return Ok(None);
+    }
     let place = after_terms(words, terms);
     match first_circle(words, place, equations) {
         Some(Word::Agent(symbol, _)) if (symbol as usize) < symbols.len() => {

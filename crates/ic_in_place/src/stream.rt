@@ -28,6 +28,9 @@ use std::alloc::{AllocError, Global};
 use std::io::{Read, Write};
 use std::sync::Arc;
 
+/// How many bytes a word of a large net is written with at most, mostly: a name of ten, or a symbol, and a mark.
+const BYTES_A_WORD: usize = 12;
+
 /// What of a reduction is asked for, as a line.
 #[derive(Clone, Copy)]
 pub enum Asked {
@@ -95,35 +98,37 @@ pub fn reduce_in_place_stream<V: Watch, R: Read, W: Write>(
     ensures quiet { OnOk result (told.new.items ≡ told.old.items) }
 {
     let text = read_text_within(alloc, limits, reader)?;
-    let (line, outcome) = reached_line(alloc, limits, bounds, asked, watch, &text, told)?;
+    let (line, outcome) = reached_line(alloc, limits, bounds, asked, watch, text, told)?;
     write_line(writer, &line)?;
     Ok(outcome)
 }
 
-/// The line of a text that is reduced in place, and how that ended. Where the line isn't to be written, it is empty.
+/// The line of a text that is reduced in place, and how that ended. Where the line isn't to be written, it is empty. The memory
+/// of the text is free once it is read.
 fn reached_line<V: Watch>(
     alloc: Global,
     limits: Limits,
     bounds: Bounds,
     asked: Asked,
     watch: &V,
-    text: &[u8],
+    text: Vec<u8>,
     told: &mut Vec<u8>,
 ) -> Result<(Vec<u8>, Outcome), StreamFault>
     ensures line { IfOk result
-        (λ answer. EndsAs limits bounds asked text.now answer.1 answer.0.items) }
+        (λ answer. EndsAs limits bounds asked text.items answer.1 answer.0.items) }
     ensures refused { IfErr result
-        (λ fault. FaultOf (ReducesInPlace limits bounds asked) text.now fault) }
+        (λ fault. FaultOf (ReducesInPlace limits bounds asked) text.items fault) }
     ensures quiet { OnOk result (told.new.items ≡ told.old.items) }
     ensures sort { IfErr result
         (λ fault. (fault ≢ StreamFault.Write) × (fault ≢ StreamFault.Read)) }
 {
-    let system = match find_wide_system(alloc, limits, text) {
+    let system = match find_wide_system(alloc, limits, &text) {
         Ok(found) => found,
         Err(misread) => {
-            return Err(refused_within(alloc, limits, Kind::System, text, misread, told));
+            return Err(refused_within(alloc, limits, Kind::System, &text, misread, told));
         }
     };
+    drop(text);
     let stopped = run_system(alloc, &system, bounds, watch)?;
     let answer = stopped_line(alloc, system, stopped, asked)?;
     Ok(answer)
@@ -284,10 +289,18 @@ fn line_reached(
     let mut line = Vec::new(alloc);
     if is_written(asked, reduced.end) {
         let (terms, equations) = (reduced.terms, reduced.equations);
+        make_room(&mut line, reduced.words.len());
         put_words(alloc, symbols, &reduced.words, terms, equations, &mut line)?;
         line.push(b'\n')?;
     }
     Ok(line)
+}
+
+/// Makes room for the text of so many words, if there is memory for it: the line isn't moved then as it grows.
+fn make_room(line: &mut Vec<u8>, words: usize)
+    ensures { line.new.items ≡ line.old.items }
+{
+    let _ = line.reserve(words.saturating_mul(BYTES_A_WORD));
 }
 
 /// What is left at a quiet end for which no step is possible.

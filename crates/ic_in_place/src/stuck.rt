@@ -26,6 +26,9 @@ pub fn stuck_text(
     ensures { IfOk result (λ stuck. option_map (λ text. text.items) stuck
         ≡ stuck_text symbols.now (configuration_of words.now terms 0)) }
 {
+    if equations == 0 {
+        return Ok(None);
+    }
     let place = after_terms(words, terms);
     first_text(alloc, symbols, words, place, equations)
 }
