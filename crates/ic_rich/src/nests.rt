@@ -152,12 +152,10 @@ impl<'t> Nests<'t> {
 
     /// Splits the rules of a group, beside which none without an arrow stands.
     fn split(&mut self, group: &Group, fresh: &mut Fresh<'t>) -> Result<(), RichFault> {
-        let first = match group.rules.first() {
-            Some(rule) => self.splitting.get(*rule),
-            None => None,
-        };
-        if let (Some(plain), Some((pattern, _))) = (group.plain, first) {
-            return Err(NestReason::Overlap(pattern.at()).at(plain));
+        if let (Some(plain), Some(rule)) = (group.plain, group.rules.first()) {
+            if let Some((pattern, _)) = self.splitting.get(*rule) {
+                return Err(NestReason::Overlap(pattern.at()).at(plain));
+            }
         }
         self.splitting.split(&group.rules, fresh)
     }

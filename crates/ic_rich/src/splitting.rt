@@ -137,11 +137,10 @@ impl<'t> Splitting<'t> {
 
     /// The node of these rules, whose first one says which side is the left one.
     fn root_of(&mut self, rules: &[usize]) -> Result<Option<Node>, RichFault> {
-        let first = match rules.first() {
-            Some(rule) => self.patterns.get(*rule),
-            None => None,
+        let Some(rule) = rules.first() else {
+            return Ok(None);
         };
-        let Some(first) = first else {
+        let Some(first) = self.patterns.get(*rule) else {
             return Ok(None);
         };
         let [left, right] = first.sides();
