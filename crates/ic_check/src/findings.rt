@@ -88,11 +88,15 @@ fn put_line(
         None => out.extend_from_slice(b"warning")?,
     }
     if !finding.words.is_empty() {
-        out.extend_from_slice(b": ")?;
-        out.extend_from_slice(&finding.words)?;
+        put_after(b": ", &finding.words, out)?;
     }
-    out.push(b'\n')?;
-    Ok(())
+    out.extend_from_slice(b"\n")
+}
+
+/// Appends bytes after these ones.
+pub(crate) fn put_after(head: &[u8], bytes: &[u8], out: &mut Vec<u8>) -> Result<(), AllocError> {
+    out.extend_from_slice(head)?;
+    out.extend_from_slice(bytes)
 }
 
 /// Appends the object of a finding, on a line.
@@ -127,7 +131,11 @@ fn put_fault(
 }
 
 /// Appends a number after these bytes, where there is one.
-fn put_number(head: &[u8], number: Option<u64>, out: &mut Vec<u8>) -> Result<(), AllocError> {
+pub(crate) fn put_number(
+    head: &[u8],
+    number: Option<u64>,
+    out: &mut Vec<u8>,
+) -> Result<(), AllocError> {
     if let Some(number) = number {
         out.extend_from_slice(head)?;
         put_decimal(number, out)?;

@@ -2,12 +2,13 @@
 
 ghost use Rattle.std.specs.Prelude.{◌≡◌, ◌++◌, ◌≤◌, ℕ, List, OnErr, OnOk, length};
 
+use crate::findings::{put_after, put_number};
 use crate::lines::split_line;
 use crate::places::{Due, LineDetail, LinePlace, line_place};
 use crate::remarks::{known, line_sentence};
 use ic_commands::read_command;
 use ic_diagnostics::{column, first_word, told_at};
-use ic_text::{TextFault, print_fault, put_decimal};
+use ic_text::{TextFault, print_fault};
 use std::alloc::{AllocError, Global};
 
 /// What is told of a line that asks for help, in place of what is looked for.
@@ -49,16 +50,12 @@ fn put_refusal(
         Some(words) => Vec::from_slice(alloc, words)?,
         None => line_sentence(alloc, line, fault, place)?,
     };
-    out.extend_from_slice(b"line ")?;
-    put_decimal(number, out)?;
-    out.extend_from_slice(b", column ")?;
-    put_decimal(column(&line[..told_at(line, place.at)]) as u64, out)?;
-    out.extend_from_slice(b": ")?;
-    out.extend_from_slice(&print_fault(alloc, &fault)?)?;
-    out.extend_from_slice(b": ")?;
-    out.extend_from_slice(&words)?;
-    out.push(b'\n')?;
-    Ok(())
+    let column = column(&line[..told_at(line, place.at)]) as u64;
+    put_number(b"line ", Some(number), out)?;
+    put_number(b", column ", Some(column), out)?;
+    put_after(b": ", &print_fault(alloc, &fault)?, out)?;
+    put_after(b": ", &words, out)?;
+    out.extend_from_slice(b"\n")
 }
 
 /// Appends what is told of the line of this number, if it is refused.
