@@ -12,8 +12,7 @@ pub(crate) fn objects(alloc: Global, looked: &Looked) -> Result<Vec<u8>, AllocEr
     let mut out = Vec::new(alloc);
     put_slot(alloc, 1, &looked.first, &mut out)?;
     put_slot(alloc, 2, &looked.second, &mut out)?;
-    out.push(b'{')?;
-    put_text("held", held_words(looked).as_bytes(), &mut out)?;
+    put_text(b"{\"held\":\"", held_words(looked).as_bytes(), &mut out)?;
     out.extend_from_slice(b"}\n")?;
     if let Some(table) = looked.table() {
         for job in table.jobs() {
@@ -23,14 +22,11 @@ pub(crate) fn objects(alloc: Global, looked: &Looked) -> Result<Vec<u8>, AllocEr
     Ok(out)
 }
 
-/// Appends a field with a text, in which no byte has to be told otherwise.
-fn put_text(name: &str, text: &[u8], out: &mut Vec<u8>) -> Result<(), AllocError> {
-    out.push(b'"')?;
-    out.extend_from_slice(name.as_bytes())?;
-    out.extend_from_slice(b"\":\"")?;
+/// Appends a text, in which no byte has to be told otherwise, after what stands before it in its object, and the end of its string.
+fn put_text(head: &[u8], text: &[u8], out: &mut Vec<u8>) -> Result<(), AllocError> {
+    out.extend_from_slice(head)?;
     out.extend_from_slice(text)?;
-    out.push(b'"')?;
-    Ok(())
+    out.extend_from_slice(b"\"")
 }
 
 /// Appends the object of a slot.
@@ -40,43 +36,36 @@ fn put_slot(
     seen: &Option<Seen>,
     out: &mut Vec<u8>,
 ) -> Result<(), AllocError> {
-    let slot = format!(in alloc; "{{\"slot\":{place},")?;
-    out.extend_from_slice(slot.as_bytes())?;
-    match seen {
-        None => put_text("state", b"cut off", out)?,
+    let line = match seen {
+        None => format!(in alloc; "{{\"slot\":{place},\"state\":\"cut off\"}}\n")?,
         Some(seen) => {
-            put_text("state", gate_word(seen.opened).as_bytes(), out)?;
+            let (gate, body) = (gate_word(seen.opened), body_words(&seen.body));
             let (number, size) = (seen.number, seen.size);
-            let numbers = format!(in alloc; ",\"number\":{number},\"size\":{size},")?;
-            out.extend_from_slice(numbers.as_bytes())?;
-            put_text("body", body_words(&seen.body).as_bytes(), out)?;
+            format!(in alloc;
+                "{{\"slot\":{place},\"state\":\"{gate}\",\"number\":{number},\"size\":{size},\"body\":\"{body}\"}}\n"
+            )?
         }
-    }
-    out.extend_from_slice(b"}\n")
+    };
+    out.extend_from_slice(line.as_bytes())
 }
 
 /// Appends the object of a job.
 fn put_job(alloc: Global, job: &Job, out: &mut Vec<u8>) -> Result<(), AllocError> {
-    out.push(b'{')?;
-    put_text("job", job.name().as_bytes(), out)?;
-    out.push(b',')?;
-    put_text("state", state_word(job.state()).as_bytes(), out)?;
+    put_text(b"{\"job\":\"", job.name().as_bytes(), out)?;
+    put_text(b",\"state\":\"", state_word(job.state()).as_bytes(), out)?;
     let (rounds, nodes, pairs) = (job.rounds(), job.config().nodes(), pairs_of(job));
     let counts = format!(in alloc;
         ",\"rounds\":{rounds},\"nodes\":{nodes},\"active_pairs\":{pairs}"
     )?;
     out.extend_from_slice(counts.as_bytes())?;
     if let Some(halt) = halt_of(alloc, job)? {
-        out.push(b',')?;
-        put_text("halt", halt_words(halt), out)?;
+        put_text(b",\"halt\":\"", halt_words(halt), out)?;
     }
     if let Some(pair) = stuck_of(alloc, job)? {
-        out.push(b',')?;
-        put_text("stuck", &pair, out)?;
+        put_text(b",\"stuck\":\"", &pair, out)?;
     }
     if let Some(symbol) = circle_of(alloc, job)? {
-        out.push(b',')?;
-        put_text("circle", &symbol, out)?;
+        put_text(b",\"circle\":\"", &symbol, out)?;
     }
     out.extend_from_slice(b"}\n")
 }

@@ -12,8 +12,7 @@ pub(crate) fn report(alloc: Global, looked: &Looked) -> Result<Vec<u8>, AllocErr
     let mut lines = Vec::new(alloc);
     put_slot(alloc, 1, &looked.first, &mut lines)?;
     put_slot(alloc, 2, &looked.second, &mut lines)?;
-    lines.extend_from_slice(b"held: ")?;
-    lines.extend_from_slice(held_words(looked).as_bytes())?;
+    put_both(b"held: ", held_words(looked).as_bytes(), &mut lines)?;
     lines.push(b'\n')?;
     if let Some(table) = looked.table() {
         for job in table.jobs() {
@@ -21,6 +20,12 @@ pub(crate) fn report(alloc: Global, looked: &Looked) -> Result<Vec<u8>, AllocErr
         }
     }
     Ok(lines)
+}
+
+/// Appends two texts.
+fn put_both(one: &[u8], other: &[u8], out: &mut Vec<u8>) -> Result<(), AllocError> {
+    out.extend_from_slice(one)?;
+    out.extend_from_slice(other)
 }
 
 /// Which slot is held, or why none is.
@@ -85,20 +90,15 @@ fn put_job(alloc: Global, job: &Job, out: &mut Vec<u8>) -> Result<(), AllocError
     let counts = format!(in alloc;
         ": {state}, rounds {rounds}, nodes {nodes}, active pairs {pairs}"
     )?;
-    out.extend_from_slice(job.name().as_bytes())?;
-    out.extend_from_slice(counts.as_bytes())?;
+    put_both(job.name().as_bytes(), counts.as_bytes(), out)?;
     if let Some(halt) = halt_of(alloc, job)? {
-        out.extend_from_slice(b", ")?;
-        out.extend_from_slice(halt_words(halt))?;
+        put_both(b", ", halt_words(halt), out)?;
     }
     if let Some(pair) = stuck_of(alloc, job)? {
-        out.extend_from_slice(b", stuck ")?;
-        out.extend_from_slice(&pair)?;
+        put_both(b", stuck ", &pair, out)?;
     }
     if let Some(symbol) = circle_of(alloc, job)? {
-        out.extend_from_slice(b", circle at ")?;
-        out.extend_from_slice(&symbol)?;
+        put_both(b", circle at ", &symbol, out)?;
     }
-    out.push(b'\n')?;
-    Ok(())
+    out.extend_from_slice(b"\n")
 }
