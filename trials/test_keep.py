@@ -535,7 +535,7 @@ class Keep(Stops):
         it has read before it puts together what it has reached. Who is slowed down by others may try again."""
         rules = "{A(B(x),S(l))><B(A(x,l))}"
         grows, is_read = (f"{rules} <r|{it}>".encode() for it in ("A(x,r)=B(x)", f"r={'S(' * 3 * 10**6}Z{')' * 3 * 10**6}"))
-        for text, held, most in ((grows, 1.1, 1.4), (is_read, 1.05, 1.0)):
+        for text, held, most in ((grows, 1.1, 1.4), (is_read, 1.05, 1.05)):
             for _ in range(3):
                 plain, kept, resumed = self.costs_of_all(text)
                 is_small = kept[0] <= held * plain[0] and resumed[0] <= most * plain[0]
