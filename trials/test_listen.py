@@ -530,18 +530,31 @@ class Ends(Listens):
                 self.equals("a server that was killed", "the status", status, listening.end(None)[0])
 
     def test_a_socket_of_systemd_is_taken_and_left(self):
-        path = self.room / "given"
+        """The script is started as the unit in examples/ says."""
+        path, unit = self.room / "given", (TOP / "examples/icserve.service").read_text()
+        (words,) = re.findall(r"(?m)^ExecStart=icserve-listen (.*)", unit)
         with socket.socket(socket.AF_UNIX) as made:
             made.bind(str(path))
             made.listen(8)
             script = 'exec 3<&0 </dev/null; LISTEN_FDS=1 LISTEN_PID=$$ exec "$@"'
-            command = ["sh", "-c", script, "sh", sys.executable, str(TOP / "listen"), "--disk", str(self.disk())]
+            words = [str(self.disk()) if it == "/var/lib/icserve/jobs.disk" else it for it in words.split()]
+            command = ["sh", "-c", script, "sh", sys.executable, str(TOP / "listen"), *words]
             how = {"stdin": made, "stdout": subprocess.PIPE, "stderr": subprocess.PIPE, "env": {**os.environ, "ICSERVE": PROGRAM}}
             with subprocess.Popen(command, **how) as started, Client(path) as client:
                 self.answers(client, "list", "jobs")
                 self.answers(client, "shutdown", "ok")
                 self.equals(command, "the status", 0, started.wait(PATIENCE))
         self.equals("the socket", "whether it is there", True, path.exists())
+
+    def test_systemd_takes_the_units(self):
+        if not shutil.which("systemd-analyze"):
+            self.skipTest("not installed: systemd-analyze")
+        (self.room / "listen").symlink_to(TOP / "listen")
+        units = [self.room / it for it in ("icserve.service", "icserve.socket")]
+        for it in units:
+            it.write_text((TOP / "examples" / it.name).read_text().replace("ExecStart=icserve-listen ", f"ExecStart={self.room}/listen "))
+        ran = run("verify", *units, program="systemd-analyze")
+        self.equals(ran.command, "what it says of them", [], [it for it in ran.err.decode().splitlines() if "icserve" in it])
 
 
 class Sends(Listens):
