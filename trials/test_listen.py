@@ -19,7 +19,7 @@ from pathlib import Path
 import model_disk
 from hosts import Hosts
 from known import ADD, LOOP, TWO
-from program import IN_MEMORY, PATIENCE, PROGRAM, TOP, Trial, run, shown
+from program import IN_MEMORY, PATIENCE, PROGRAM, TOP, Trial, heeds_signals, run, shown
 from test_drawn_serving import OTHERS, session
 
 LONGEST = 262_144
@@ -434,12 +434,26 @@ class Rounds(Listens):
 
 class Ends(Listens):
     def test_the_socket_is_its_owners_and_is_removed_at_the_end(self):
-        for sign in (signal.SIGTERM, signal.SIGINT):
-            with self.listening(disk=self.disk(f"{sign}.disk")) as listening:
+        for sign in (signal.SIGTERM, signal.SIGINT, signal.SIGHUP):
+            with self.listening(disk=self.disk(f"{sign}.disk"), preexec_fn=heeds_signals) as listening:
                 mode = stat.S_IMODE(os.stat(listening.path).st_mode)
                 self.equals("the socket", "its mode", 0o600, mode)
                 self.ends_well(listening, sign)
                 self.equals("the socket", "whether it is there", False, os.path.exists(listening.path))
+
+    def test_a_terminal_that_closes_ends_it_but_not_by_nohup(self):
+        def is_kept():
+            signal.signal(signal.SIGHUP, signal.SIG_IGN)
+
+        for heeds, sign in ((heeds_signals, None), (is_kept, signal.SIGTERM)):
+            with self.listening(disk=self.disk(f"{sign}.disk"), preexec_fn=heeds) as listening, listening.client() as client:
+                self.answers(client, f"submit loop {LOOP.text}", "accepted")
+                listening.process.send_signal(signal.SIGHUP)
+                if sign:
+                    self.answers(client, "list", "jobs loop:running:0")
+                else:
+                    self.agrees("SIGHUP", "what came", b"", client.rest())
+                self.equals(listening.command, "status, and what it said", (0, ""), listening.end(sign))
 
     def connects(self, path):
         """Whether a process of another user, whose group is 65534, may connect."""
