@@ -603,9 +603,12 @@ class Sends(Listens):
                 self.equals(ran.command, "what is told", told, (ran.err + ran.after)[: len(told)])
 
     def test_at_a_line_that_is_answered_by_bad_it_is_told_what_tells_more(self):
-        told = "icserve-send: a line was answered `bad`: `icserve check -` tells what is wrong in such lines\n"
+        told = "icserve-send: a line was answered `bad`: `icserve check -` tells what is wrong in such lines, but doesn't know `wait NAME` and `shutdown`\n"
+        quotes = "icserve-send: each LINE is one argument: put it in quotes, as 'fetch two'\n"
         with self.listening():
             self.ended(self.send("lst", "run 2000", "list"), ["bad syntax", "bad limit", "jobs"], told)
+            self.ended(self.send("fetch", "two"), ["bad syntax", "bad syntax"], told + quotes)
+            self.ended(self.send("wait"), ["bad syntax"], told)
             self.ended(self.send("submit bad {} <|>", "fetch bad"), ["accepted", "bad done 0 <|>"])
 
     def test_a_missing_answer_is_told(self):
@@ -626,7 +629,10 @@ class Sends(Listens):
 
     def test_where_nobody_listens_it_says_so(self):
         path = self.room / "none"
-        self.ended(self.send("list", path=path), b"", f"icserve-send: {path}: No such file or directory\n", status=4)
+        self.ended(self.send("list", path=path), b"", f"icserve-send: {path}: no server listens there: No such file or directory\n", status=4)
+        with socket.socket(socket.AF_UNIX) as left:
+            left.bind(str(path))
+            self.ended(self.send("list", path=path), b"", f"icserve-send: {path}: no server listens there: Connection refused\n", status=4)
 
     def test_a_server_that_is_begun_just_after_it_is_found(self):
         """So the lines of a page may be pasted at once."""
@@ -648,12 +654,13 @@ class Sends(Listens):
 
     def test_at_a_terminal_it_asks_for_lines(self):
         with self.listening() as listening:
-            self.is_asked("--socket", listening.path)
+            self.is_asked("run K, wait NAME, shutdown; Ctrl-D ends the session", "Ctrl-D ends the session, and `shutdown` the server", "--socket", listening.path)
         (self.room / "icserve/history").unlink()
-        self.is_asked("--disk", self.disk("own.disk"))
+        self.is_asked("run K; Ctrl-D ends the session", "Ctrl-D ends the session", "--disk", self.disk("own.disk"))
 
-    def is_asked(self, *words):
-        """Types lines at a prompt: each is answered, and they are remembered."""
+    @contextlib.contextmanager
+    def at_a_terminal(self, *words):
+        """The script at a terminal: its command, its process and the terminal's other end."""
         main, other = pty.openpty()
         self.addCleanup(os.close, main)
         command = [sys.executable, TOP / "send", *words]
@@ -661,14 +668,33 @@ class Sends(Listens):
         with subprocess.Popen(command, stdin=other, stdout=other, stderr=other, env=env, start_new_session=True) as started:
             self.addCleanup(started.kill)
             os.close(other)
-            for line, wanted in (("list", b"jobs\r\n"), ("help", b"wait NAME, shutdown\r\n"), ("fetch no", b"refused nojob\r\n")):
-                self.shows(main, b"> ")
-                os.write(main, line.encode() + b"\n")
-                self.shows(main, wanted)
-            self.shows(main, b"> ")
-            os.write(main, b"\x04")
+            yield command, started, main
+
+    def types(self, terminal, line, wanted):
+        """Types a line at the prompt, after which this is shown."""
+        self.shows(terminal, b"> ")
+        os.write(terminal, line.encode() + b"\n")
+        self.shows(terminal, f"{wanted}\r\n".encode())
+
+    def is_asked(self, helped, ends, *words):
+        """Types lines at a prompt: each is answered, and they are remembered."""
+        lines = (("list", "jobs"), ("help", helped), ("quit", ends), ("fetch no", "refused nojob"))
+        with self.at_a_terminal(*words) as (command, started, terminal):
+            for line, wanted in lines:
+                self.types(terminal, line, wanted)
+            self.shows(terminal, b"> ")
+            os.write(terminal, b"\x04")
             self.equals(command, "the status", 0, started.wait(PATIENCE / 4))
-        self.equals("the history", "its lines", ["list", "help", "fetch no"], (self.room / "icserve/history").read_text().split("\n")[:3])
+        self.equals("the history", "its lines", [it for it, _ in lines], (self.room / "icserve/history").read_text().split("\n")[: len(lines)])
+
+    def test_at_a_terminal_it_is_told_that_the_server_has_ended(self):
+        for sign in (signal.SIGTERM, signal.SIGKILL):
+            with self.listening(disk=self.disk(f"{sign}.disk")) as listening:
+                with self.at_a_terminal("--socket", listening.path) as (command, started, terminal):
+                    self.types(terminal, "list", "jobs")
+                    listening.end(sign)
+                    self.types(terminal, "list", "icserve-send: the server has ended, and a line has no answer: `list` and `fetch` tell what was done")
+                    self.equals(command, "the status", 1, started.wait(PATIENCE / 4))
 
     def test_a_server_of_ones_own_is_asked_over_a_disk(self):
         disk, env = self.disk("own.disk"), {**os.environ, "ICSERVE": PROGRAM}
