@@ -187,7 +187,7 @@ class Scripts(Shards):
         figures = '{"end":"quiet","stuck":null,"circle":null,"interactions":7,"by_rule":[]}'
         (folder / "c.ic.figures").write_text(figures + "\n")
         (folder / "b.ic.refused").write_text("icserve: overgrown\n")
-        told = ["gather: texts/a.ic has no answer yet", "gather: texts/b.ic is refused, overgrown: mend it, or move it away"]
+        told = ["gather: texts/a.ic has no answer yet", "gather: texts/b.ic is refused, overgrown: it goes on with a greater --nodes"]
         self.ended(self.script("gather", "texts"), err=told, status=1)
         self.ended(self.script("gather", "--there", "texts"), out=["c done 7 <|>"], err=told, status=1)
 

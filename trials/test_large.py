@@ -172,6 +172,28 @@ class Large(Texts):
         ran = self.script("large", "texts/one.ic", "--rounds", "7", "--workers", "2")
         self.equals(ran.command, "status and standard output", (2, b""), (ran.status, ran.out))
 
+    def test_a_net_that_outgrows_its_nodes_is_kept_and_goes_on_with_more(self):
+        """Of the text it is told how, and of another refusal that the text has to be mended. By one thread and by several."""
+        texts = {"one": f"{FIBONACCI} <r|F(r)={numeral(20)}>"}
+        self.write({**texts, "bad": "{A><B"})
+        reached = [0]
+        for words in (["--nodes", "100"], ["--nodes=1000", "--workers", "3"]):
+            for text, told in (("one", b"icserve: overgrown\n"), ("bad", b"icserve: bad syntax\n")):
+                ran = self.script("large", f"texts/{text}.ic", *words)
+                self.equals(ran.command, "status, and what is told first", (1, told), (ran.status, ran.err.splitlines(keepends=True)[0]))
+            self.has("bad.ic", "bad.ic.lock", "bad.ic.refused", *(f"one.ic{it}" for it in ("", ".keep", ".keep.2", ".lock", ".refused")))
+            lines = ["texts/bad.ic is refused, bad syntax: mend it, or move it away", "texts/one.ic is refused, overgrown: it goes on with a greater --nodes"]
+            ran = self.script("gather", "texts")
+            self.equals(ran.command, "how it ends, and what it tells", (1, [f"gather: {it}" for it in lines]), (ran.status, ran.err.decode().splitlines()))
+            row = self.script("table", "texts").out.decode().splitlines()[2].split("\t")
+            self.equals("table texts", "its row", ["one", "refused", "overgrown"], [*row[:2], row[6]])
+            reached.append(int(row[2]))
+        self.equals("table texts", f"whether it has gone on: {reached}", True, reached == sorted(set(reached)))
+        for it in ("bad.ic", "bad.ic.lock", "bad.ic.refused"):
+            (self.room / "texts" / it).unlink()
+        self.ended(self.script("large", "texts", "--nodes", "1000000"))
+        self.end_as_unbroken(texts)
+
     def test_a_text_whose_device_is_full_fails_and_goes_on_once_there_is_room(self):
         """What is kept first is refused for its size, and then what is kept at the end."""
         texts = {"one": f"{FIBONACCI} <r|F(r)={numeral(12)}>"}
