@@ -853,9 +853,9 @@ class Keep(Stops):
             left = paths[1 - place].read_bytes() if paths[1 - place].exists() else None
             self.equals(ran.command, "what the other file holds", other, left)
 
-    def life(self, text, most, begins):
+    def life(self, text, most, begins, threads=1):
         """A run that is recorded and makes at most so many interactions: what it told, and its calls on the files."""
-        words = ["--keep" if begins else "--resume", self.file, "--steps", most, "--quiet-answer", *FIGURES]
+        words = ["--keep" if begins else "--resume", self.file, "--steps", most, "--workers", threads, "--quiet-answer", *FIGURES]
         ran = run("reduce", *words, given=text if begins else b"", **recording(self.log))
         self.equals(ran.command, f"status; it said {ran.err}", True, ran.status in (0, 5))
         return ran, [it for it in noted(self.log) if it.kind in "WST"]
@@ -904,15 +904,24 @@ class Keep(Stops):
         return [image if it == at else synced[it] for it in (0, 1)]
 
     def test_power_that_goes_at_any_moment_leaves_a_state_that_was_kept(self):
-        draw, text = self.draws(), ackermann(2)
+        self.loses_power(ackermann(2), (20, 21, 60, 150), 1)
+
+    def test_power_that_goes_while_four_threads_reduce_leaves_a_state_that_was_kept(self):
+        self.loses_power(fibonacci(16), (1_000, 1_001, 9_000, 15_000), 4)
+
+    def loses_power(self, text, bounds, threads):
+        """Goes on from bound to bound and to the end, each life by so many threads. At each moment of each the power is lost."""
+        draw = self.draws()
         whole = self.whole(text)
-        total, held, tried = whole[1]["interactions"], None, 0
+        total, held, tried, shared = whole[1]["interactions"], None, 0, 0
+        self.equals("the whole", f"whether its {total} interactions pass the bounds", True, total > bounds[-1])
         contents = [b"", b""]
-        for most in (20, 21, 60, 150, total, total):
+        for most in (*bounds, total, total):
             if held is not None:
                 self.put(contents)
-            ran, calls = self.life(text, most, held is None)
+            ran, calls = self.life(text, most, held is None, threads)
             reached = figures(ran)["interactions"]
+            shared += figures(ran)["shared"]
             after = self.contents()
             for synced, at, pending, counts in self.moments(contents, calls, held, reached, after):
                 for _ in range(IMAGES if pending else 1):
@@ -925,6 +934,7 @@ class Keep(Stops):
             self.put(after)
             contents, held = after, reached
         self.equals("power cuts", f"at least 100 images, came {tried}", True, tried >= 100)
+        self.equals("power cuts", f"whether several threads had the net, with {shared} interactions", threads > 1, shared > 0)
 
     def test_each_call_on_the_files_goes_wrong_in_turn(self):
         text = ackermann(2)
