@@ -284,10 +284,11 @@ class Launcher(Trial):
         self.says("and is proved first", told)
         self.calls_are("lib", "all", "run")
 
-    def test_status_4_and_no_proof_where_the_sources_are_refused(self):
-        ran = self.launch("settle", REFUSES="3")
-        self.ended(ran._replace(err=b""), status=4)
-        self.calls_are("build")
+    def test_status_4_and_no_proof_where_the_sources_are_refused_or_a_signal_ends_the_build(self):
+        for status in ("3", "137"):
+            ran = self.launch("settle", REFUSES=status)
+            self.ended(ran._replace(err=b""), status=4)
+        self.calls_are("build", "build")
 
     def test_it_hands_on_words_input_and_status_through_links_too(self):
         (self.room / "folder").mkdir()
