@@ -4,3 +4,4 @@ pub mod Traced
 pub mod RowsOf
 pub mod GoingOn
 mod Soon
+mod Untold

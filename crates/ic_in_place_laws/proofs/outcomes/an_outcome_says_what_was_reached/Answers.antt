@@ -1,13 +1,12 @@
-use Rattle.std.proofs.Common.{◌≡◌, ◌≢◌, List, [], ℕ, Bool, true, false, Option, None, cond, length, refl, sym, ap, ◌∙◌}
+use Rattle.std.proofs.Common.{◌≡◌, ◌≢◌, List, [], ℕ, Bool, true, false, None, cond, length, refl, sym, ap, ◌∙◌}
 use Rattle.ic_term.specs.Configuration.{Configuration}
 use Rattle.ic_term.specs.Symbol.{Symbol}
-use Rattle.ic_rules.specs.Rule.{Rule}
-use Rattle.ic_in_place.specs.Counting.{TellsNameSteps}
 use Rattle.ic_in_place.specs.declared.running.End.{End}
 use Rattle.ic_in_place.specs.declared.running.End.TheVariants.{Quiet, Steps, Nodes, Limit, Memory}
 use Rattle.ic_naming.specs.Naming.{renumbered}
 use Rattle.ic_streams.specs.Streams.{line_of}
 use Rattle.ic_in_place.specs.Reductions.{is_written, stuck_at}
+use Rattle.ic_in_place_laws.proofs.Untold.{no_name_steps}
 use Rattle.ic_in_place_laws.proofs.outcomes.an_outcome_says_what_was_reached.Goals as goal
 
 pub returns-clause-reached : goal.returns-clause-reached
@@ -25,16 +24,7 @@ returns-clause-unwritten c = λ s bounds asked outcome line is e. is.prints ∙ 
 pub returns-clause-rules : goal.returns-clause-rules
 returns-clause-rules c = λ s bounds asked outcome line is. is.rules
 
--- at other ends no name steps are told
-no_steps : (rs : List Rule) (d : Configuration) (interactions left : ℕ) (end : End) (told : Option ℕ) → end ≢ Quiet
-    → TellsNameSteps rs d interactions left end told → told ≡ None
-no_steps rs d interactions left Quiet told other tells = absurd (other refl)
-no_steps rs d interactions left Steps told other tells = tells
-no_steps rs d interactions left Nodes told other tells = tells
-no_steps rs d interactions left Limit told other tells = tells
-no_steps rs d interactions left Memory told other tells = tells
-
--- and no stuck pair
+-- at other ends no stuck pair is told
 no_pair : (end : End) (symbols : List Symbol) (d : Configuration) → end ≢ Quiet → stuck_at end symbols d ≡ None
 no_pair Quiet symbols d other = absurd (other refl)
 no_pair Steps symbols d other = refl
@@ -44,6 +34,6 @@ no_pair Memory symbols d other = refl
 
 pub returns-clause-neither : goal.returns-clause-neither
 returns-clause-neither c = λ s bounds asked outcome line is other. (
-  no_steps s.rules.rules s.config outcome.interactions (length is.answer.equations) outcome.end outcome.name_steps other is.name_steps,
+  no_name_steps s.rules.rules s.config outcome.interactions (length is.answer.equations) outcome.end outcome.name_steps other is.name_steps,
   is.stuck ∙ no_pair outcome.end s.rules.symbols is.answer other,
 )
