@@ -71,7 +71,7 @@ pub record IsEndOf (s : SystemParts) (bounds : Bounds) (most : ℕ) (k : Kept) (
   pub onward : IsReachedFrom s k (kept_by state)
   pub by_rounds : (made : ℕ) → k.rounds ≡ Some made → (n : ℕ) × (rounds ≡ Some n) × (n ≤ max most made)
       × IsAnswerByRounds s most n e answer.answer state.interactions state.by_rule.items
-  pub no_fewer : (made n : ℕ) → k.rounds ≡ Some made → rounds ≡ Some n → (made ≤ n) ⊎ ((n ≡ 0) × (state.interactions ≡ 0))
+  pub no_fewer : (made n : ℕ) → k.rounds ≡ Some made → rounds ≡ Some n → (made ≤ n) ⊎ ((n ≡ 0) × (state.interactions ≡ 0) × (e ≢ Quiet) × (e ≢ Steps))
   pub any_order : k.rounds ≡ None → rounds ≡ None
   pub between : (made : ℕ) → k.rounds ≡ Some made → made < most → (e ≡ Quiet) ⊎ (e ≡ Steps) → state.rounds ≡ rounds
 
@@ -125,11 +125,17 @@ end_by_rounds s most top e answer interactions by_rule told over n is low betwee
     ))
     (some n is)
 
--- they are no fewer than were made before, unless no pair has fired
-pub no_fewer_told : (told : Option ℕ) (made over n interactions : ℕ) → (told ≡ Some over) ⊎ ((told ≡ Some 0) × (interactions ≡ 0)) → made ≤ over → told ≡ Some n
-    → (made ≤ n) ⊎ ((n ≡ 0) × (interactions ≡ 0))
-no_fewer_told told made over n interactions (inl all) low is = inl (let same : over ≡ n = cc (sym all ∙ is) in omega (arith, low, same))
-no_fewer_told told made over n interactions (inr none) low is = inr (let same : n ≡ 0 = cc (sym none.0 ∙ is) in (same, none.1))
+-- they are no fewer than were made before, unless it has ended by a bound or a limit, and no pair has fired
+pub no_fewer_told : (told : Option ℕ) (made over n interactions : ℕ) (e : End) → (told ≡ Some over) ⊎ ((told ≡ Some 0) × (interactions ≡ 0)) → ((e ≡ Quiet) ⊎ (e ≡ Steps) → told ≡ Some over)
+    → made ≤ over → told ≡ Some n → (made ≤ n) ⊎ ((n ≡ 0) × (interactions ≡ 0) × (e ≢ Quiet) × (e ≢ Steps))
+no_fewer_told told made over n interactions e (inl all) between low is = inl (let same : over ≡ n = cc (sym all ∙ is) in omega (arith, low, same))
+no_fewer_told told made over n interactions e (inr none) between low is =
+    let same : n ≡ 0 = cc (sym none.0 ∙ is) in
+    let whole : 0 < made → (e ≡ Quiet) ⊎ (e ≡ Steps) → ⊥ = λ some either. let none_over : over ≡ 0 = cc (sym (between either) ∙ none.0) in omega (arith, none_over, low, some) in
+    ⊎_elim
+    (λ some. inr (same, none.1, λ quiet. whole some (inl quiet), λ steps. whole some (inr steps)))
+    (λ few. inl (omega (arith, few)))
+    (cases_lt 0 made)
 
 -- how far a run from any state has gone on with such a state
 pub record GoneTo (bounds : Bounds) (old : State) (e : End) (state : State) : Type 0 where

@@ -51,7 +51,7 @@ pub record IsTold (s : SystemParts) (asked : Asked) (ended : Ended) : Type 0 whe
 
 -- A run from this state of the reduction has ended so. Its answer is one of the system, and is reached from that state. In any
 -- order it is one within these bounds, and no rounds are told. By rounds it is the net after as many as are told, at most so many,
--- or as were made before, and no fewer than these, unless no pair has fired at all.
+-- or as were made before, and no fewer than these, unless a bound or a limit came before any pair had fired.
 pub record HasRun (s : SystemParts) (bounds : Bounds) (most : ℕ) (asked : Asked) (k : Kept)
     (run : Ended) : Type 0 where
   pub within : Bounds
@@ -63,7 +63,8 @@ pub record HasRun (s : SystemParts) (bounds : Bounds) (most : ℕ) (asked : Aske
       × (rounds ≤ max most made) × IsAnswerByRounds s most rounds run.end answer.answer
       run.state.interactions run.state.by_rule.items
   pub no_fewer : (made rounds : ℕ) → k.rounds ≡ Some made → run.rounds ≡ Some rounds
-      → (made ≤ rounds) ⊎ ((rounds ≡ 0) × (run.state.interactions ≡ 0))
+      → (made ≤ rounds) ⊎ ((rounds ≡ 0) × (run.state.interactions ≡ 0) × (run.end ≢ Quiet)
+      × (run.end ≢ Steps))
   pub any_order : k.rounds ≡ None → run.rounds ≡ None
   pub between : (made : ℕ) → k.rounds ≡ Some made → made < most
       → (run.end ≡ Quiet) ⊎ (run.end ≡ Steps) → run.state.rounds ≡ run.rounds

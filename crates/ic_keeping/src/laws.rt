@@ -458,11 +458,12 @@ pub fn what_a_run_by_rounds_tells()
         × AreCounts (length s.rules.rules) (rules_in s.rules.rules rounds s.config ++ since)
         run.state.by_rule.items × (rest : List ℕ) × IsPermutation (since ++ rest)
         (rules_of s.rules.rules (iterate s.rules.rules rounds s.config).equations) }
-    // No fewer are told than were made before, unless no pair has fired at all.
+    // No fewer are told than were made before, unless a bound or a limit came before any pair had fired.
     ensures no_fewer { (s : SystemParts) (bounds : Bounds) (most : ℕ) (asked : Asked) (k : Kept)
         (run : Ended) (made rounds : ℕ) → HasRun s bounds most asked k run → k.rounds ≡ Some made
         → run.rounds ≡ Some rounds
-        → (made ≤ rounds) ⊎ ((rounds ≡ 0) × (run.state.interactions ≡ 0)) }
+        → (made ≤ rounds) ⊎ ((rounds ≡ 0) × (run.state.interactions ≡ 0) × (run.end ≢ Quiet)
+        × (run.end ≢ Steps)) }
     // In any order none are told, and its answer is one within the bounds that were asked for.
     ensures any_order { (s : SystemParts) (bounds : Bounds) (most : ℕ) (asked : Asked) (k : Kept)
         (run : Ended) → HasRun s bounds most asked k run → k.rounds ≡ None → run.rounds ≡ None }

@@ -62,7 +62,8 @@ end_here g c s told is steps all between untold some =
           piece.rounds piece.told (omega (arith, piece.within, c.loop-pieces.invariant.few s is made now.0 same now.1)) between some piece.net piece.needed reached piece.fired;
       no_fewer = λ made n same here.
           let one : m ≡ made = cc (sym by ∙ same) in
-          no_fewer_told told made piece.rounds n c.run_piece.new.state.interactions (some piece.rounds piece.told) (omega (arith, one, now.2, piece.later)) here;
+          no_fewer_told told made piece.rounds n c.run_piece.new.state.interactions c.in_ok-run.run'.end (some piece.rounds piece.told) (λ either. between either ∙ piece.told)
+          (omega (arith, one, now.2, piece.later)) here;
       any_order = λ none. absurd (cc (sym by ∙ none));
       between = λ made same low either.
           piece.between (c.loop-pieces.invariant.below made now.0 same now.1 low) either ∙ sym (between either ∙ piece.told);
