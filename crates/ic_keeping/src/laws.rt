@@ -46,7 +46,7 @@ ghost use Rattle.ic_text.specs.declared.limits.TheConstants.{MAX_NAME};
 ghost use Rattle.ic_keeping.specs.declared.fault.KeepingFault.{KeepingFault};
 ghost use Rattle.ic_keeping.specs.declared.fault.KeepingFault.TheVariants as keeping;
 ghost use Rattle.ic_keeping.specs.declared.going.Ended.{Ended};
-ghost use Rattle.ic_keeping.specs.Life.{AreEmpty, EndsBetween, HasAsFar, HasEnded, HasFailed, HasLived, HasRun, HasState, HoldAState, IsFirstLife, IsFoundAgain, IsLeftBy, IsNotBegun, IsRead, IsLife, IsTold, KeepFails, KeepModel, KeepsOn, RefusesFiles, StopsABegin, StopsARun, StopsAnOpening, StopsAt, StopsFrom};
+ghost use Rattle.ic_keeping.specs.Life.{AreEmpty, EndsBetween, GoesOn, HasAsFar, HasEnded, HasFailed, HasLived, HasRun, HasState, HoldAState, IsFirstLife, IsFoundAgain, IsLeftBy, IsNotBegun, IsRead, IsLife, IsTold, KeepFails, KeepModel, KeepsOn, RefusesFiles, StopsABegin, StopsARun, StopsAnOpening, StopsAt, StopsFrom};
 ghost use Rattle.ic_keeping.specs.Way.{AreAlike, AreSums, ComesPastLimits, IsAnswer, IsAsFar, IsBegun, IsFormFrom, IsFormOf, IsKeptAfter, IsNoLess, IsOnWay, IsReachedFrom, IsStateOf};
 
 use crate::beginning::ResumeFault;
@@ -320,6 +320,30 @@ pub fn what_a_life_tells()
         × ((cause : KeepFault) → ¬ StopsABegin (keeping.Keep cause)) }
 {}
 
+/// A run goes on from the state that it is given, whatever this is. In any order no more interactions are made in all than may
+/// be, if any more are made. The time that is told doesn't fall, and no pair is told to be stuck but at a quiet end.
+pub fn a_run_goes_on_within_its_bounds()
+    ensures within { (bounds : Bounds) (k : Kept) (run : Ended) → GoesOn bounds k run
+        → k.rounds ≡ None → (run.state.interactions ≤ bounds.steps)
+        ⊎ (run.state.interactions ≡ k.interactions) }
+    ensures millis { (bounds : Bounds) (k : Kept) (run : Ended) → GoesOn bounds k run
+        → k.millis ≤ run.state.millis }
+    ensures unstuck { (bounds : Bounds) (k : Kept) (run : Ended) → GoesOn bounds k run
+        → run.end ≢ Quiet → IsNone run.stuck }
+{}
+
+/// Where a life stops after its files were opened, memory ran out, its state leads past a limit, or a keep failed, and its
+/// keeper shows how.
+pub fn why_a_life_stops<D: Disk>(keeper: &Keeper<D>)
+    ensures { (s : SystemParts) (k : Kept) (new : Keeper D) (fault : ResumeFault D)
+        → StopsAt s k keeper.now new fault → (fault.cause ≡ keeping.Memory)
+        ⊎ ((fault.cause ≡ keeping.Limit) × ComesPastLimits s k)
+        ⊎ ((cause : KeepFault) × (fault.cause ≡ keeping.Keep cause)
+        × KeepFails cause keeper.now new) }
+{
+    let _ = keeper;
+}
+
 /// What a keep that was refused says of its keeper: it was broken, its number is the last one, or it is broken only now.
 pub fn why_a_keep_fails<D: Disk>(keeper: &Keeper<D>)
     ensures broken { (new : Keeper D) → KeepFails keep.Broken keeper.now new
@@ -372,6 +396,14 @@ pub fn kept_states_go_on()
         (configuration_of next.words next.terms other) more
         × (next.interactions ≡ k.interactions + length more)
         × (next.text ≡ k.text) × (k.millis ≤ next.millis) }
+    // What a run has come to is reached so from the state that it was given.
+    ensures run { (s : SystemParts) (bounds : Bounds) (most : ℕ) (asked : Asked) (k : Kept)
+        (run : Ended) → HasRun s bounds most asked k run
+        → (one : ℕ) × (other : ℕ) × (more : List ℕ)
+        × Reaches s.rules.rules (configuration_of k.words k.terms one)
+        (configuration_of run.state.words.items run.state.terms other) more
+        × (run.state.interactions ≡ k.interactions + length more)
+        × (run.state.text.items ≡ k.text) }
     ensures as_far { (kept k : Kept) → IsAsFar kept k → (kept.interactions ≡ k.interactions)
         × (kept.by_rule ≡ k.by_rule) × (k.ended ≡ true → kept.ended ≡ true) }
     ensures of { (s : SystemParts) (from : Kept) (one other : List ℕ)
@@ -431,6 +463,15 @@ pub fn a_kept_answer_is_told_as_any_other()
         → (is : IsAnswer s bounds Quiet k)
         → stuck_text s.rules.symbols (configuration_of k.words k.terms 0)
         ≡ stuck_text s.rules.symbols (renumbered is.answer) }
+    // So a run tells of its answer, and by the rules of the system.
+    ensures run { (s : SystemParts) (bounds : Bounds) (most : ℕ) (asked : Asked) (k : Kept)
+        (run : Ended) → (has : HasRun s bounds most asked k run)
+        → (arc_value run.rules ≡ s.rules) × (run.line.items
+        ≡ line_reached asked run.end s.rules.symbols has.answer.answer) }
+    ensures run_stuck { (s : SystemParts) (bounds : Bounds) (most : ℕ) (asked : Asked) (k : Kept)
+        (run : Ended) → (has : HasRun s bounds most asked k run) → run.end ≡ Quiet
+        → option_map (λ text. text.items) run.stuck
+        ≡ stuck_text s.rules.symbols (renumbered has.answer.answer) }
 {}
 
 /// What a run by rounds tells that has ended as a round was over: how many are over, and the net after them. At a quiet end no step is

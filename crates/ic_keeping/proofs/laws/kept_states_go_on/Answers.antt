@@ -38,6 +38,11 @@ returns-clause-of c s from one other held =
 pub returns-clause-reached : goal.returns-clause-reached
 returns-clause-reached c = λ s k next is. (is.was, is.is, is.was.next, is.is.next, is.more, is.reached, is.counted, is.text, is.millis)
 
+pub returns-clause-run : goal.returns-clause-run
+returns-clause-run c = λ s bounds most asked k run has.
+    let on = has.onward in
+    (on.was.next, on.is.next, on.more, on.reached, on.counted, on.text)
+
 pub returns-clause-as_far : goal.returns-clause-as_far
 returns-clause-as_far c = λ kept k is. (is.interactions, is.by_rule, is.ended)
 
