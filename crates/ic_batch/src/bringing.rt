@@ -69,10 +69,9 @@ pub fn batch<T: Threads + Wait + Copy + Send + 'static, D: Disk, W: Write, G: Ga
     ensures fault { IfErr result (Says most jobs.now book.old book.new) }
     ensures done { OnOk result (Succeeds jobs.now book.old book.new) }
 
-    // One thread has no fault of others. At any end so much isn't kept at most, where all was before,
+    // No fault of other threads comes. At any end so much isn't kept at most, where all was before,
     // and so few calls to the disk are made.
-    ensures alone { workers ≡ 1 → (fault : ServeFault) → result ≡ Err (Serve fault)
-        → ComesAlone fault }
+    ensures alone { (fault : ServeFault) → result ≡ Err (Serve fault) → ComesAlone fault }
     ensures few_unkept { IsAllKept book.old → unkept_of book.new ≤ max every (length jobs.now) }
     ensures few_calls { CallsFew jobs.now every book.old book.new }
 {
@@ -127,7 +126,7 @@ fn bring_to_ends<T: Threads + Wait + Copy + Send + 'static, D: Disk, G: Gate>(
     ensures broken { is_broken book.old ≡ true → IfErr result ComesOverBroken }
     ensures unbroken { OnOk result (is_broken book.old ≡ false) }
     ensures whole { OnOk result (is_broken book.new ≡ false) }
-    ensures alone { workers ≡ 1 → IfErr result ComesAlone }
+    ensures alone { IfErr result ComesAlone }
     ensures few_unkept { IsAllKept book.old → unkept_of book.new ≤ max every (length jobs.now) }
     ensures few_calls { CallsFew jobs.now every book.old book.new }
 {

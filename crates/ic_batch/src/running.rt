@@ -75,7 +75,7 @@ pub(crate) fn make_rounds<T: Threads + Wait + Copy + Send + 'static, D: Disk, G:
     ensures comes { IfErr result (ComesWith most (table_of book.new)) }
     ensures broken { is_broken book.old ≡ true → IfErr result ComesOverBroken }
     ensures still { is_broken book.old ≡ true → OnOk result (is_broken book.new ≡ true) }
-    ensures alone { workers ≡ 1 → IfErr result ComesAlone }
+    ensures alone { IfErr result ComesAlone }
     ensures few_unkept { IsAllKept book.old → unkept_of book.new ≤ every }
     ensures few_calls { weight_of (log_of book.old)
         + events_in (table_of book.old) (table_of book.new) < PAGE_WEIGHT

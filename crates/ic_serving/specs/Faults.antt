@@ -112,7 +112,8 @@ ComesBroken (Pool fault) = ⊥
 ComesBroken LongLine = Unit {0}
 ComesBroken Memory = Unit {0}
 
--- which of them come where one thread makes each round: none of other threads and what they hand over
+-- Which of them come where the thread that serves makes each round that no other made ahead: none of
+-- other threads and what they hand over.
 abbrev pub ComesAlone : ServeFault → Type 0
 ComesAlone Read = Unit {0}
 ComesAlone Write = Unit {0}

@@ -63,7 +63,7 @@ pub fn answer_line<T: Threads + Wait + Copy + Send + 'static, D: Disk>(
     ensures fault { FaultLeaves ComesInLine result book.old book.new }
     ensures broken { is_broken book.old ≡ true → IfErr result ComesBroken }
     ensures still { is_broken book.old ≡ true → OnOk result (is_broken book.new ≡ true) }
-    ensures alone { workers ≡ 1 → IfErr result ComesAlone }
+    ensures alone { IfErr result ComesAlone }
     ensures few_unkept { IsAllKept book.old → unkept_of book.new ≤ every }
     ensures few_calls { CallsFewFor limit line.now every book.old book.new }
 
@@ -125,7 +125,7 @@ pub(crate) fn answer_read<T: Threads + Wait + Copy + Send + 'static, D: Disk, G:
     ensures fault { FaultLeaves ComesInLine result book.old book.new }
     ensures broken { is_broken book.old ≡ true → IfErr result ComesBroken }
     ensures still { is_broken book.old ≡ true → OnOk result (is_broken book.new ≡ true) }
-    ensures alone { workers ≡ 1 → IfErr result ComesAlone }
+    ensures alone { IfErr result ComesAlone }
     ensures few_unkept { IsAllKept book.old → unkept_of book.new ≤ every }
     ensures few_calls { CallsFew limit
         (events (table_of book.old) reading) every book.old book.new }
@@ -221,7 +221,7 @@ fn answer_run<T: Threads + Wait + Copy + Send + 'static, D: Disk, G: Gate>(
         (table_of book.old) (turns count 0 (table_of book.old)) (table_of book.new)) }
     ensures broken { is_broken book.old ≡ true → IfErr result ComesBroken }
     ensures unbroken { OnOk result (is_broken book.old ≡ false) }
-    ensures alone { workers ≡ 1 → IfErr result ComesAlone }
+    ensures alone { IfErr result ComesAlone }
     ensures few_unkept { IsAllKept book.old → unkept_of book.new ≤ every }
     ensures few_calls { CallsFew limit (turns count 0 (table_of book.old)) every book.old book.new }
     ensures crash { Leaves book.old book.new (IsKeptWithin (table_of book.old)

@@ -117,7 +117,7 @@ pub fn make_round<T: Threads + Wait + Copy + Send + 'static, D: Disk>(
     ensures blocked { (flight : FlightParts) → due (table_of book.old) after ≡ Some flight
         → IsTrue (is_blocked flight) → IfErr result ComesUnmade }
     ensures fault { FaultLeaves ComesInLine result book.old book.new }
-    ensures alone { workers ≡ 1 → IfErr result ComesAlone }
+    ensures alone { IfErr result ComesAlone }
     ensures one { unkept_of book.new ≤ unkept_of book.old + 1 }
     ensures still { HasSpare limit book.old → keeper_of book.new ≡ keeper_of book.old }
     ensures crash { Leaves book.old book.new (IsKeptOrNow book.old) }

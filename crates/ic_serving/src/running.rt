@@ -57,7 +57,7 @@ pub(crate) fn run<T: Threads + Wait + Copy + Send + 'static, D: Disk, G: Gate>(
         (table_of book.old) (turns count 0 (table_of book.old)) (table_of book.new)) }
     ensures broken { is_broken book.old ≡ true → IfErr result ComesBroken }
     ensures unbroken { OnOk result (is_broken book.old ≡ false) }
-    ensures alone { workers ≡ 1 → IfErr result ComesAlone }
+    ensures alone { IfErr result ComesAlone }
     ensures few_unkept { IsAllKept book.old → unkept_of book.new ≤ every }
     ensures few_calls { CallsFew limit (turns count 0 (table_of book.old)) every book.old book.new }
     ensures crash { Leaves book.old book.new (IsKeptWithin (table_of book.old)
@@ -98,7 +98,7 @@ fn make_rounds<T: Threads + Wait + Copy + Send + 'static, D: Disk, G: Gate>(
         (table_of book.old) (turns count 0 (table_of book.old)) (table_of book.new)) }
     ensures broken { is_broken book.old ≡ true → IfErr result ComesBroken }
     ensures still { is_broken book.old ≡ true → OnOk result (is_broken book.new ≡ true) }
-    ensures alone { workers ≡ 1 → IfErr result ComesAlone }
+    ensures alone { IfErr result ComesAlone }
     ensures few_unkept { IsAllKept book.old → unkept_of book.new ≤ every }
     ensures few_calls { HasRoom limit (turns count 0 (table_of book.old)) book.old
         → D.clock (disk_of book.new) ≤ D.clock (disk_of book.old)

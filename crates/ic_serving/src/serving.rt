@@ -69,7 +69,7 @@ pub fn serve_lines<T: Threads + Wait + Copy + Send + 'static, D: Disk, R: Read, 
     ensures fault { FaultLeaves MayCome result book.old book.new }
     ensures broken { is_broken book.old ≡ true → IfErr result ComesBroken }
     ensures still { is_broken book.old ≡ true → OnOk result (is_broken book.new ≡ true) }
-    ensures alone { workers ≡ 1 → IfErr result ComesAlone }
+    ensures alone { IfErr result ComesAlone }
     ensures few_unkept { IsAllKept book.old → unkept_of book.new ≤ max every group }
 {
     serve_watched(
@@ -107,7 +107,7 @@ pub fn serve_watched<
     ensures fault { FaultLeaves MayCome result book.old book.new }
     ensures broken { is_broken book.old ≡ true → IfErr result ComesBroken }
     ensures still { is_broken book.old ≡ true → OnOk result (is_broken book.new ≡ true) }
-    ensures alone { workers ≡ 1 → IfErr result ComesAlone }
+    ensures alone { IfErr result ComesAlone }
     ensures few_unkept { IsAllKept book.old → unkept_of book.new ≤ max every group }
 {
     let mut lines = LineBuffer::new(alloc);
@@ -157,7 +157,7 @@ fn serve_with<T: Threads + Wait + Copy + Send + 'static, D: Disk, R: Read, W: Wr
     ensures fault { FaultLeaves MayCome result book.old book.new }
     ensures broken { is_broken book.old ≡ true → IfErr result ComesBroken }
     ensures still { is_broken book.old ≡ true → OnOk result (is_broken book.new ≡ true) }
-    ensures alone { workers ≡ 1 → IfErr result ComesAlone }
+    ensures alone { IfErr result ComesAlone }
     ensures few_unkept { IsAllKept book.old → unkept_of book.new ≤ max every group }
 {
     ic_commands::laws::one_line_reading();
@@ -243,7 +243,7 @@ fn answer_next<T: Threads + Wait + Copy + Send + 'static, D: Disk, G: Gate>(
     ensures fault { FaultLeaves ComesInLine result book.old book.new }
     ensures broken { is_broken book.old ≡ true → IfErr result ComesBroken }
     ensures still { is_broken book.old ≡ true → OnOk result (is_broken book.new ≡ true) }
-    ensures alone { workers ≡ 1 → IfErr result ComesAlone }
+    ensures alone { IfErr result ComesAlone }
     ensures few_unkept { IsAllKept book.old → unkept_of book.new ≤ max every most }
 {
     ic_commands::laws::one_line_reading();

@@ -135,10 +135,9 @@ pub fn answers_are_appended()
 
 /// `LongLine` says that fewer than 1,000,000 lines are answered and that the line after them has
 /// more than 262,144 bytes, and `TooManyLines` that 1,000,000 are answered and one more is to come.
-/// Some faults of the book and of the pool never come, by one worker none of other threads, and
-/// where no round and no halt is to be made none of the pool. Where only halts are, that memory ran
-/// out is all that comes of the pool. Over a broken book comes none of the pool, and of the book
-/// `Broken` alone.
+/// Some faults of the book and of the pool never come, nor any of other threads, and where no round
+/// and no halt is to be made none of the pool. Where only halts are, that memory ran out is all that
+/// comes of the pool. Over a broken book comes none of the pool, and of the book `Broken` alone.
 pub fn faults_say()
     ensures long_line { (t left : List JobParts) (front rest : List (List ℕ))
         → SaysOf LongLine t left front rest

@@ -203,7 +203,7 @@ returns-in_err-take_one-clause-broken g c = λ is. err_comes c.from_residual.res
     (untaken_broken c.loop.left c.in_err-take_one.field-0.0 (to_come c.loop.lines (g.R.Read.remaining c.loop.reader)) c.in_err-take_one.ensures.untaken)
 
 pub returns-in_err-take_one-clause-alone : goal.returns-in_err-take_one-clause-alone
-returns-in_err-take_one-clause-alone g c = λ is. err_comes c.from_residual.result c.in_err-take_one.field-0.0 ComesAlone c.from_residual.ensures.1
+returns-in_err-take_one-clause-alone g c = err_comes c.from_residual.result c.in_err-take_one.field-0.0 ComesAlone c.from_residual.ensures.1
     (untaken_alone c.loop.left c.in_err-take_one.field-0.0 (to_come c.loop.lines (g.R.Read.remaining c.loop.reader)) c.in_err-take_one.ensures.untaken)
 
 pub returns-in_err-reading-clause-broken : goal.returns-in_err-reading-clause-broken
