@@ -15,11 +15,11 @@ use Rattle.ic_jobs.specs.Job.{JobParts, can_move, moved, in_state}
 use Rattle.ic_jobs.specs.Table.{IsTable, is_named, job_named, with_changed}
 use Rattle.ic_book.specs.declared.book.Book.{Book}
 use Rattle.ic_book.specs.declared.limits.TheConstants.{SYSTEM_WEIGHT}
-use Rattle.ic_book.specs.Weight.{weigh, weight, weight_of}
+use Rattle.ic_book.specs.Weight.{weight, weight_of}
 use Rattle.ic_serving.specs.declared.limits.TheConstants.{PAGE_WEIGHT}
 use Rattle.ic_book.specs.lemmas.Weights.{weigh_first, weigh_on}
 use Rattle.ic_book.specs.Book.{disk_of, keeper_of, log_of, table_of}
-use Rattle.ic_serving.specs.Grown.{GoesOn, HasRoom, HasSpare, IsSamePage}
+use Rattle.ic_serving.specs.Grown.{GoesOn, HasSpare, IsSamePage}
 use Rattle.ic_batch.specs.declared.jobs.NewJob.{NewJob}
 use Rattle.ic_batch.specs.Calls.{CallsFew, come_to, events_in, events_of}
 use Rattle.ic_batch.specs.inner.Staying.{AreKept, HaveCome}
@@ -327,7 +327,7 @@ module _ {D : Type 0} {ghosts : Ghosts D} where
 
   module _ (old mid : Book D ghosts) (first : length (table_of old) ≤ length (table_of mid)) (so_far : RoomToCome old (table_of mid) → HaveCome old mid) where
     -- one more has come
-    pub come_more : (e : Event) (new : Book D ghosts) → weight e ≡ SYSTEM_WEIGHT → length (table_of new) ≡ length (table_of mid) + 1 → (HasRoom PAGE_WEIGHT (e ∷ []) mid → GoesOn (e ∷ []) mid new)
+    pub come_more : (e : Event) (new : Book D ghosts) → weight e ≡ SYSTEM_WEIGHT → length (table_of new) ≡ length (table_of mid) + 1 → (HasSpare PAGE_WEIGHT mid → GoesOn (e ∷ []) mid new)
         → (HasSpare PAGE_WEIGHT mid → keeper_of new ≡ keeper_of mid) → RoomToCome old (table_of new) → HaveCome old new
     come_more e new weighs longer goes still room =
         let a = weight_of (log_of old) in
@@ -335,11 +335,11 @@ module _ {D : Type 0} {ghosts : Ghosts D} where
         let next : come_to (table_of old) (table_of new) ≡ k + 1 = one (length (table_of old)) (length (table_of mid)) (length (table_of new)) first longer in
         let all : a + SYSTEM_WEIGHT * (k + 1) < PAGE_WEIGHT = subst (λ (n : ℕ). a + SYSTEM_WEIGHT * n < PAGE_WEIGHT) next room in
         let here = so_far (fewer a k all) in
-        let spare : HasRoom PAGE_WEIGHT (e ∷ []) mid = spare_one a k (weight_of (log_of mid)) (weight e) (weigh (e ∷ [])) here.log weighs (weigh_first e []) all in
+        let spare : HasSpare PAGE_WEIGHT mid = spare_one a k (weight_of (log_of mid)) here.log all in
         record {
           log = one_longer e mid new (goes spare) ∙ ap (λ (n : ℕ). weight_of (log_of mid) + n) weighs ∙ up a k (weight_of (log_of mid)) here.log
               ∙ ap (λ (n : ℕ). a + SYSTEM_WEIGHT * n) (sym next);
-          keeper = still (one_less (weight_of (log_of mid)) (weigh (e ∷ [])) spare) ∙ here.keeper;
+          keeper = still spare ∙ here.keeper;
         }
       where
         one : (o m n : ℕ) → o ≤ m → n ≡ m + 1 → n - o ≡ (m - o) + 1
@@ -348,11 +348,8 @@ module _ {D : Type 0} {ghosts : Ghosts D} where
         fewer : (a k : ℕ) → a + SYSTEM_WEIGHT * (k + 1) < PAGE_WEIGHT → a + SYSTEM_WEIGHT * k < PAGE_WEIGHT
         fewer a k room = omega (arith, room)
 
-        spare_one : (a k b own more : ℕ) → b ≡ a + SYSTEM_WEIGHT * k → own ≡ SYSTEM_WEIGHT → more ≡ own + 0 → a + SYSTEM_WEIGHT * (k + 1) < PAGE_WEIGHT → b + more < PAGE_WEIGHT
-        spare_one a k b own more is weighs all room = omega (arith, is, weighs, all, room)
-
-        one_less : (b more : ℕ) → b + more < PAGE_WEIGHT → b < PAGE_WEIGHT
-        one_less b more room = omega (arith, room)
+        spare_one : (a k b : ℕ) → b ≡ a + SYSTEM_WEIGHT * k → a + SYSTEM_WEIGHT * (k + 1) < PAGE_WEIGHT → b < PAGE_WEIGHT
+        spare_one a k b is room = omega (arith, is, room)
 
         up : (a k b : ℕ) → b ≡ a + SYSTEM_WEIGHT * k → b + SYSTEM_WEIGHT ≡ a + SYSTEM_WEIGHT * (k + 1)
         up a k b is = omega (arith, is)

@@ -1,5 +1,5 @@
 -- How the page of a book goes on.
-use Rattle.std.proofs.Common.{◌≡◌, inl, inr, ⊎_elim, ℕ, ◌+◌, ◌-◌, ◌<◌, List, [], ◌∷◌, ◌++◌, Some, refl, sym, ap, ap₂, subst, ◌∙◌, arith, append-nil, append_assoc}
+use Rattle.std.proofs.Common.{◌≡◌, inl, inr, ⊎_elim, ℕ, ◌+◌, ◌-◌, ◌<◌, ◌≤◌, List, [], ◌∷◌, ◌++◌, Some, refl, sym, ap, ap₂, subst, ◌∙◌, arith, append-nil, append_assoc, map}
 use Rattle.std.specs.List.{AllByRecursion}
 use Rattle.std.proofs.lemmas.List.{map-append}
 use Rattle.ic_disk.specs.declared.disk.Disk.{Ghosts}
@@ -19,7 +19,7 @@ use Rattle.ic_book.specs.Weight.{weigh, weight_of}
 use Rattle.ic_book.specs.lemmas.Weights.{weigh_both, weigh_on}
 use Rattle.ic_lines.specs.Turns.{turns}
 use Rattle.ic_serving.specs.Booked.{last_kept, Advances, MakesRound, StaysPut}
-use Rattle.ic_serving.specs.Grown.{IsSamePage, GoesOn, GoesOnWithin, HasRoom, HasSpare}
+use Rattle.ic_serving.specs.Grown.{IsSamePage, BeginsPage, GoesOn, GoesOnWithin, HasRoom, HasSpare}
 use Rattle.ic_serving.proofs.RunLemmas.{turns_step}
 
 senders_both : (a b : List Entry) → AllByRecursion (λ (e : Entry). e.who ≡ 0) a → AllByRecursion (λ (e : Entry). e.who ≡ 0) b → AllByRecursion (λ (e : Entry). e.who ≡ 0) (a ++ b)
@@ -97,6 +97,17 @@ module _ {D : Type 0} {ghosts : Ghosts D} where
   command_goes c reply old mid new same start log = goes_after (by_command c ∷ []) old mid new same
       (record { entries = command_entry 0 c reply ∷ []; start = start; log = log; events = refl; senders = (refl, tt) })
 
+  -- one event, on a new page
+  pub begins_page : (event : Event) (entry : Entry) (old mid new : Book D ghosts) → entry.event ≡ event → entry.who ≡ 0 → log_of mid ≡ [] → start_of mid ≡ table_of mid
+      → table_of mid ≡ table_of old → start_of new ≡ start_of mid → log_of new ≡ log_of mid ++ entry ∷ [] → BeginsPage (event ∷ []) old new
+  begins_page event entry old mid new is own none begun table start log =
+      let one : log_of new ≡ entry ∷ [] = log ∙ ap (λ (h : List Entry). h ++ entry ∷ []) none in
+      record {
+        start = start ∙ begun ∙ table;
+        events = ap (λ (h : List Entry). map (λ (e : Entry). e.event) h) one ∙ ap (λ (e : Event). e ∷ []) is;
+        senders = subst (λ (h : List Entry). AllByRecursion (λ (e : Entry). e.who ≡ 0) h) (sym one) (own, tt);
+      }
+
   -- what the log weighs after these events
   pub weighs_after : (es : List Event) (old new : Book D ghosts) → GoesOn es old new → weight_of (log_of new) ≡ weight_of (log_of old) + weigh es
   weighs_after es old new goes = weigh_on (log_of old) (log_of new) goes.entries es goes.log goes.events
@@ -108,9 +119,10 @@ module _ {D : Type 0} {ghosts : Ghosts D} where
 
   -- a round was made after a page that was begun or stays
   pub makes_round : {limit : ℕ} (after place : ℕ) (old mid new : Book D ghosts) (f : FlightParts) (reply : Reply) → due (table_of old) after ≡ Some f → place ≡ f.place
-      → StaysPut limit old mid → Advances (Round f.name) mid new → start_of new ≡ start_of mid → log_of new ≡ log_of mid ++ round_entry f.name reply ∷ []
+      → StaysPut limit old mid → (limit ≤ weight_of (log_of old) → log_of mid ≡ []) → (limit ≤ weight_of (log_of old) → start_of mid ≡ table_of mid)
+      → Advances (Round f.name) mid new → start_of new ≡ start_of mid → log_of new ≡ log_of mid ++ round_entry f.name reply ∷ []
       → MakesRound limit after place old new
-  makes_round after place old mid new f reply is_due here stays advances start log = record {
+  makes_round after place old mid new f reply is_due here stays none begun advances start log = record {
     flight = f;
     is_due = is_due;
     here = here;
@@ -122,6 +134,7 @@ module _ {D : Type 0} {ghosts : Ghosts D} where
     };
     page = λ room. goes_after (Round f.name ∷ []) old mid new (stays.page room)
         (record { entries = round_entry f.name reply ∷ []; start = start; log = log; events = refl; senders = (refl, tt) });
+    turned = λ full. begins_page (Round f.name) (round_entry f.name reply) old mid new refl refl (none full) (begun full) stays.table start log;
   }
 
   -- ---- a run

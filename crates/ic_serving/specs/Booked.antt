@@ -1,5 +1,5 @@
 -- What a serving speaks of in a book.
-use Rattle.std.specs.Prelude.{◌≡◌, ◌⊎◌, ℕ, ◌-◌, List, [], ◌∷◌, Some, length}
+use Rattle.std.specs.Prelude.{◌≡◌, ◌⊎◌, ◌≤◌, ℕ, ◌-◌, List, [], ◌∷◌, Some, length}
 use Rattle.ic_disk.specs.declared.disk.Disk.{Ghosts}
 use Rattle.ic_flights.specs.Flight.{FlightParts}
 use Rattle.ic_jobs.specs.Job.{JobParts}
@@ -10,8 +10,9 @@ use Rattle.ic_jobs.specs.Landing.{due}
 use Rattle.ic_book.specs.declared.book.Book.{Book}
 use Rattle.ic_book.specs.Book.{start_of, log_of, table_of, kept_of}
 use Rattle.ic_book.specs.Left.{table_kept}
+use Rattle.ic_book.specs.Weight.{weight_of}
 use Rattle.ic_serving.specs.Parts.{IsPart, IsKeptWithin}
-use Rattle.ic_serving.specs.Grown.{IsSamePage, GoesOn, GoesOnWithin, HasRoom, HasSpare}
+use Rattle.ic_serving.specs.Grown.{IsSamePage, BeginsPage, GoesOn, GoesOnWithin, HasRoom, HasSpare}
 
 -- the table that was kept last
 abbrev pub last_kept : {D : Type 0} {ghosts : Ghosts D} → Book D ghosts → List JobParts
@@ -45,6 +46,7 @@ pub record MakesRound {D : Type 0} {ghosts : Ghosts D} (limit after place : ℕ)
   pub here : place ≡ flight.place
   pub advances : Advances (Round flight.name) old new
   pub page : HasSpare limit old → GoesOn (Round flight.name ∷ []) old new
+  pub turned : limit ≤ weight_of (log_of old) → BeginsPage (Round flight.name ∷ []) old new
 
 -- ---- of a line that is begun
 

@@ -5,7 +5,7 @@ use Rattle.ic_disk.specs.declared.disk.Disk.{Ghosts}
 use Rattle.ic_jobs.specs.declared.event.Event.{Event}
 use Rattle.ic_jobs.specs.declared.event.Entry.{Entry}
 use Rattle.ic_book.specs.declared.book.Book.{Book}
-use Rattle.ic_book.specs.Book.{start_of, log_of, disk_of}
+use Rattle.ic_book.specs.Book.{start_of, log_of, table_of, disk_of}
 use Rattle.ic_book.specs.Weight.{weigh, weight_of}
 use Rattle.ic_serving.specs.declared.limits.TheConstants.{PAGE_WEIGHT}
 
@@ -22,6 +22,13 @@ pub record GoesOn {D : Type 0} {ghosts : Ghosts D} (es : List Event) (old new : 
   pub log : log_of new ≡ log_of old ++ entries
   pub events : map (λ (e : Entry). e.event) entries ≡ es
   pub senders : AllByRecursion (λ (e : Entry). e.who ≡ 0) entries
+
+-- A new page begins with the table that there was. Its entries are those of these events alone, which
+-- are sent by 0.
+pub record BeginsPage {D : Type 0} {ghosts : Ghosts D} (es : List Event) (old new : Book D ghosts) : Type 0 where
+  pub start : start_of new ≡ table_of old
+  pub events : map (λ (e : Entry). e.event) (log_of new) ≡ es
+  pub senders : AllByRecursion (λ (e : Entry). e.who ≡ 0) (log_of new)
 
 -- it goes on by a front of these events
 pub record GoesOnWithin {D : Type 0} {ghosts : Ghosts D} (es : List Event) (old new : Book D ghosts) : Type 0 where

@@ -14,7 +14,7 @@ ghost use Rattle.ic_serving.specs.Parts.{IsBeforeRound, IsKeptWithin};
 ghost use Rattle.ic_book.specs.Moves.{keeps};
 ghost use Rattle.ic_book.specs.Weight.{weight, weight_of};
 ghost use Rattle.ic_serving.specs.Answered.{CallsFewFor, EndsWith, IsAnswered, IsBegun, IsReplied};
-ghost use Rattle.ic_serving.specs.Grown.{CallsFew, GoesOn, HasRoom, HasSpare, IsLimit};
+ghost use Rattle.ic_serving.specs.Grown.{BeginsPage, CallsFew, GoesOn, HasRoom, HasSpare, IsLimit};
 ghost use Rattle.ic_serving.specs.Moments.{FaultLeaves, Leaves, IsKeptInLine};
 ghost use Rattle.ic_serving.specs.Faults.{ComesAlone, ComesBroken, ComesFor, ComesInLine, ComesUnmade, ComesWithoutRound};
 ghost use Rattle.ic_serving.specs.inner.Reading.{IsAnsweredAs};
@@ -167,8 +167,10 @@ pub fn answer_command<D: Disk>(
     ensures whole { OnOk result (is_broken book.new ≡ false) }
     ensures replied { IfOk result (λ bytes. IsReplied command bytes.items book.old book.new) }
     ensures fresh { OnOk result (number_of book.old ≢ 2 ^ 64 - 1) }
-    ensures page { OnOk result (HasRoom limit (by_command command ∷ []) book.old
+    ensures page { OnOk result (HasSpare limit book.old
         → GoesOn (by_command command ∷ []) book.old book.new) }
+    ensures turned { OnOk result (limit ≤ weight_of (log_of book.old)
+        → BeginsPage (by_command command ∷ []) book.old book.new) }
     ensures begun { OnErr result (Begins limit (by_command command ∷ []) book.old book.new) }
     ensures fault { FaultLeaves ComesInLine result book.old book.new }
     ensures comes { IfErr result ComesWithoutRound }

@@ -48,6 +48,8 @@ pub(crate) fn make_room<D: Disk>(
     ensures room { HasSpare limit book.old → IsUnchanged book.old book.new }
     ensures turned { limit ≤ weight_of (log_of book.old)
         → OnOk result (log_of book.new ≡ []) }
+    ensures begins { limit ≤ weight_of (log_of book.old)
+        → OnOk result (start_of book.new ≡ table_of book.new) }
     ensures worn { OnOk result (number_of book.old ≡ 2 ^ 64 - 1
         → number_of book.new ≡ 2 ^ 64 - 1) }
     ensures crash { Leaves book.old book.new (IsKeptOrNow book.old) }

@@ -10,7 +10,7 @@ ghost use Rattle.ic_text.specs.declared.limits.TheConstants.{MAX_TEXT};
 ghost use Rattle.ic_serving.specs.Booked.{last_kept, unkept_of, Begins};
 ghost use Rattle.ic_serving.specs.Parts.{IsKeptWithin};
 ghost use Rattle.ic_serving.specs.Answered.{IsTaken};
-ghost use Rattle.ic_serving.specs.Grown.{GoesOn, HasRoom, HasSpare, IsLimit};
+ghost use Rattle.ic_serving.specs.Grown.{BeginsPage, GoesOn, HasSpare, IsLimit};
 ghost use Rattle.ic_serving.specs.Moments.{FaultLeaves, Leaves};
 ghost use Rattle.ic_book.specs.Weight.{weight, weight_of};
 ghost use Rattle.ic_serving.specs.declared.limits.TheConstants.{MAX_LINES};
@@ -46,8 +46,10 @@ pub fn take_command<D: Disk>(
     ensures whole { OnOk result (is_broken book.new ≡ false) }
     ensures taken { IfOk result (λ bytes. IsTaken command bytes.items book.old book.new) }
     ensures fresh { OnOk result (number_of book.old ≢ 2 ^ 64 - 1) }
-    ensures page { OnOk result (HasRoom limit (by_command command ∷ []) book.old
+    ensures page { OnOk result (HasSpare limit book.old
         → GoesOn (by_command command ∷ []) book.old book.new) }
+    ensures turned { OnOk result (limit ≤ weight_of (log_of book.old)
+        → BeginsPage (by_command command ∷ []) book.old book.new) }
     ensures begun { Begins limit (by_command command ∷ []) book.old book.new }
     ensures fault { FaultLeaves ComesInLine result book.old book.new }
     ensures comes { IfErr result ComesWithoutRound }

@@ -11,7 +11,7 @@ use Rattle.ic_book.specs.lemmas.Chains.{answer_moves, by_answer, by_failure, by_
 use Rattle.ic_serving.specs.lemmas.Reaching.{kept_all}
 use Rattle.ic_serving.specs.lemmas.Unkept.{none_unkept, one_unkept, same_unkept}
 use Rattle.ic_serving.proofs.LineLemmas.{device_or_not, begun_none, begun_one, begun_kept, after_event, kept_after}
-use Rattle.ic_serving.proofs.PageLemmas.{command_goes, one_more, one_room, same_then, within_all, within_none}
+use Rattle.ic_serving.proofs.PageLemmas.{begins_page, command_goes, one_more, one_room, same_then, within_all, within_none}
 use Rattle.ic_serving.specs.Parts.{IsKeptWithin}
 use Rattle.ic_serving.specs.Moments.{IsKeptOrNow}
 use Rattle.ic_serving.proofs.StopLemmas.{kept_or_now, leaves_still, leaves_command}
@@ -117,7 +117,12 @@ returns-clause-crash g c =
 
 pub returns-clause-page : goal.returns-clause-page
 returns-clause-page g c = λ room. command_goes c.args.command c.in_ok-reply.reply c.args.book.now c.make_room.new.book c.command.new.self
-    (c.in_ok-make_room.ensures.stays.page (one_room c.args.book.now c.args.command room)) c.command.ensures.start c.in_ok-reply.ensures.step.answered.page.0.adds.entry
+    (c.in_ok-make_room.ensures.stays.page room) c.command.ensures.start c.in_ok-reply.ensures.step.answered.page.0.adds.entry
+
+pub returns-clause-turned : goal.returns-clause-turned
+returns-clause-turned g c = λ full.
+    begins_page (by_command c.args.command) (command_entry 0 c.args.command c.in_ok-reply.reply) c.args.book.now c.make_room.new.book c.command.new.self refl refl
+    (c.in_ok-make_room.ensures.turned full) (c.in_ok-make_room.ensures.begins full) c.in_ok-make_room.ensures.stays.table c.command.ensures.start c.in_ok-reply.ensures.step.answered.page.0.adds.entry
 
 pub returns-clause-fresh : goal.returns-clause-fresh
 returns-clause-fresh g c = λ worn.

@@ -8,7 +8,7 @@ use Rattle.ic_book.specs.Book.{is_broken, number_of, table_of, disk_of}
 use Rattle.ic_text.specs.declared.fault.TextFault.{TextFault}
 use Rattle.ic_lines.specs.Answers.{answer, after_line, events}
 use Rattle.ic_serving.specs.Booked.{last_kept, IsAllKept}
-use Rattle.ic_serving.specs.Grown.{GoesOn, HasRoom}
+use Rattle.ic_serving.specs.Grown.{GoesOn, HasRoom, HasSpare}
 use Rattle.ic_book.specs.lemmas.Chains.{by_nothing}
 use Rattle.ic_serving.proofs.PageLemmas.{goes_none, one_room}
 use Rattle.ic_serving.proofs.RunLemmas.{on_err}
@@ -31,10 +31,10 @@ use Rattle.ic_serving.proofs.answering.answer_read.Goals as goal
 command_answered : {D V : Type 0} {ghosts : Ghosts D} (limit : ℕ) (c : Command) (old new : Book D ghosts) (r : Result V ServeFault) (items : V → List ℕ)
     → IfOk r (λ v. items v ≡ answer (table_of old) (Ok (Asks c))) → OnOk r (table_of new ≡ after_line (table_of old) (Ok (Asks c))) → OnOk r (IsAllKept new)
     → OnOk r (is_broken new ≡ false) → OnOk r (number_of old ≢ 2 ^ 64 - 1)
-    → OnOk r (HasRoom limit (by_command c ∷ []) old → GoesOn (by_command c ∷ []) old new) → IfOk r (λ v. IsReplied c (items v) old new)
+    → OnOk r (HasSpare limit old → GoesOn (by_command c ∷ []) old new) → IfOk r (λ v. IsReplied c (items v) old new)
     → IfOk r (λ v. IsAnsweredAs limit (Ok (Asks c)) (items v) old new)
 command_answered limit c old new (Ok v) items said table kept whole fresh page done =
-    record { answer = said; table = table; kept = kept; whole = whole; fresh = fresh; page = page; done = done }
+    record { answer = said; table = table; kept = kept; whole = whole; fresh = fresh; page = λ room. page (one_room old c room); done = done }
 command_answered limit c old new (Err e) items said table kept whole fresh page done = tt
 
 -- a refused line is answered by its refusal, and nothing changes

@@ -3,6 +3,7 @@ use Rattle.ic_jobs.specs.declared.event.Event.TheVariants.{Command as by_command
 use Rattle.ic_serving.specs.inner.Group.{HaveCome, asked}
 use Rattle.ic_serving.proofs.CallLemmas.{clock_same}
 use Rattle.ic_serving.proofs.GroupLemmas.{come_begins, come_kept, come_then, passed_none}
+use Rattle.ic_serving.proofs.PageLemmas.{one_room}
 use Rattle.ic_serving.proofs.RunLemmas.{on_err}
 use Rattle.ic_serving.proofs.grouping.answer_group.Goals as goal
 
@@ -22,7 +23,7 @@ returns-in_err-take_ready-clause-begun g c =
     let first : HaveCome c.args.limit (by_command c.args.first ∷ []) c.args.book.now c.take_command.new.book = record {
       table = c.in_ok-answers.ensures.taken.table;
       kept = c.take_command.ensures.begun.kept;
-      page = c.in_ok-answers.ensures.page;
+      page = λ room. c.in_ok-answers.ensures.page (one_room c.args.book.now c.args.first room);
       crash = c.take_command.ensures.crash;
     } in
     let r = c.take_ready.ensures.taken c.args.limit in
@@ -44,7 +45,7 @@ returns-in_err-keep_all-clause-begun g c =
     let first : HaveCome c.args.limit (by_command c.args.first ∷ []) c.args.book.now c.take_command.new.book = record {
       table = c.in_ok-answers.ensures.taken.table;
       kept = c.take_command.ensures.begun.kept;
-      page = c.in_ok-answers.ensures.page;
+      page = λ room. c.in_ok-answers.ensures.page (one_room c.args.book.now c.args.first room);
       crash = c.take_command.ensures.crash;
     } in
     let r = c.take_ready.ensures.taken c.args.limit in
@@ -68,7 +69,7 @@ returns-clause-done g c =
     let first : HaveCome c.args.limit (by_command c.args.first ∷ []) c.args.book.now c.take_command.new.book = record {
       table = c.in_ok-answers.ensures.taken.table;
       kept = c.take_command.ensures.begun.kept;
-      page = c.in_ok-answers.ensures.page;
+      page = λ room. c.in_ok-answers.ensures.page (one_room c.args.book.now c.args.first room);
       crash = c.take_command.ensures.crash;
     } in
     let r = c.in_ok-take_ready.ensures.taken c.args.limit in

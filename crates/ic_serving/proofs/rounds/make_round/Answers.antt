@@ -39,7 +39,7 @@ pub returns-clause-made : goal.returns-clause-made
 returns-clause-made g c =
     let is : due (table_of c.args.book.now) c.args.after ≡ Some c.in-Some.flight = sym c.in_ok-flight.ensures.due ∙ c.in-Some.is in
     makes_round c.args.after c.place-place.result c.args.book.now c.make_room.new.book c.land_or_halt.new.book c.in-Some.flight c.in_ok-land_or_halt.ensures.added.0
-    is c.place-place.ensures.place c.make_room.ensures.stays c.in_ok-land_or_halt.ensures.advances c.land_or_halt.ensures.start c.in_ok-land_or_halt.ensures.added.1
+    is c.place-place.ensures.place c.make_room.ensures.stays c.in_ok-make_room.ensures.turned c.in_ok-make_room.ensures.begins c.in_ok-land_or_halt.ensures.advances c.land_or_halt.ensures.start c.in_ok-land_or_halt.ensures.added.1
 
 pub returns-in_default-clause-crash : goal.returns-in_default-clause-crash
 returns-in_default-clause-crash g c = leaves_nothing c.args.book.now (IsKeptOrNow c.args.book.now) (g.met.D.Disk.left_is_image _) c.facts.ensures.either

@@ -12,7 +12,7 @@ use Rattle.ic_serving.specs.Parts.{IsKeptWithin}
 use Rattle.ic_serving.specs.lemmas.Leaving.{leaves_more}
 use Rattle.ic_serving.specs.lemmas.Unkept.{same_unkept}
 use Rattle.ic_serving.proofs.LineLemmas.{begun_none}
-use Rattle.ic_serving.proofs.PageLemmas.{command_goes, one_more, one_room, same_then, within_none}
+use Rattle.ic_serving.proofs.PageLemmas.{begins_page, command_goes, one_more, one_room, same_then, within_none}
 use Rattle.ic_serving.proofs.RefusalLemmas.{err_broken, not_true}
 use Rattle.ic_serving.proofs.RunLemmas.{kept_same}
 use Rattle.ic_serving.proofs.StopLemmas.{kept_or_now, leaves_command, leaves_still}
@@ -95,7 +95,13 @@ pub returns-clause-page : goal.returns-clause-page
 returns-clause-page g c = λ room.
     let goes = taken_goes c.args.command c.in_ok-reply.reply c.make_room.new.book c.take.new.self c.in_ok-reply.ensures.step.taken in
     command_goes c.args.command c.in_ok-reply.reply c.args.book.now c.make_room.new.book c.take.new.self
-    (c.in_ok-make_room.ensures.stays.page (one_room c.args.book.now c.args.command room)) goes.start goes.adds.entry
+    (c.in_ok-make_room.ensures.stays.page room) goes.start goes.adds.entry
+
+pub returns-clause-turned : goal.returns-clause-turned
+returns-clause-turned g c = λ full.
+    let goes = taken_goes c.args.command c.in_ok-reply.reply c.make_room.new.book c.take.new.self c.in_ok-reply.ensures.step.taken in
+    begins_page (by_command c.args.command) (command_entry 0 c.args.command c.in_ok-reply.reply) c.args.book.now c.make_room.new.book c.take.new.self refl refl
+    (c.in_ok-make_room.ensures.turned full) (c.in_ok-make_room.ensures.begins full) c.in_ok-make_room.ensures.stays.table goes.start goes.adds.entry
 
 pub returns-clause-taken : goal.returns-clause-taken
 returns-clause-taken g c = is_taken c.args.command c.in_ok-reply.reply c.args.book.now c.make_room.new.book c.take.new.self _ c.make_room.ensures.crash.done
