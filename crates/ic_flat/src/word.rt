@@ -30,12 +30,15 @@ impl PartialEq for Word {
     ghost laws = { partial_equiv_from_equiv word_eq-equivalence };
 
     fn eq(&self, other: &Word) -> bool {
-        match (*self, *other) {
-            (Word::Name(left), Word::Name(right)) => left == right,
-            (Word::Agent(left, left_arity), Word::Agent(right, right_arity)) => {
-                left == right && left_arity == right_arity
-            }
-            _ => false,
+        match *self {
+            Word::Name(left) => match *other {
+                Word::Name(right) => left == right,
+                Word::Agent(_, _) => false,
+            },
+            Word::Agent(left, left_arity) => match *other {
+                Word::Agent(right, right_arity) => left == right && left_arity == right_arity,
+                Word::Name(_) => false,
+            },
         }
     }
 }

@@ -9,7 +9,7 @@ use Rattle.ic_flat.proofs.equality.FlatPartialEq.eq.Goals.{then-next, else-next}
 -- where `next` and the terms agree, the words decide
 pub returns-then-interface_len : goal.returns-then-interface_len
 returns-then-interface_len c =
-    let words = c.eq.ensures ∙ (λ i. pointwise word_eq (c.words.ensures.words i) (c.words-then-interface_len.ensures.words i)) in
+    let words = c.are_same.ensures ∙ (λ i. pointwise word_eq (c.words.ensures.words i) (c.words-then-interface_len.ensures.words i)) in
     elim c.if-next.branch [
       | then-next w ↦
           let next = sym c.next.ensures.next ∙ w.if-next.true ∙ c.next-2.ensures.next in
