@@ -56,3 +56,8 @@ IsDue-next ws place end due d whole is some =
 -- so the number of those due is that of a machine word
 pub IsDue-fits : (ws : List Word) (place end due : ℕ) → IsDue ws place end due → due ≤ length ws
 IsDue-fits ws place end due is = omega (arith, is.enough, forest-le (drop end ws), length-drop end ws)
+
+-- while terms are missing, there is a word
+pub more_there : (ws : List Word) (end counter count : ℕ) → count ≤ length (forest ws) → counter < count → forest (drop end ws) ≡ drop counter (forest ws) → end < length ws
+more_there ws end counter count enough some rest =
+    omega (arith, enough, some, ap length rest, length-drop counter (forest ws), forest-le (drop end ws), length-drop end ws)

@@ -1,4 +1,4 @@
-use Rattle.std.specs.Prelude.{◌≡◌, ℕ, ◌+◌, ◌*◌, List, [], ◌∷◌, ◌++◌, length, take, drop}
+use Rattle.std.specs.Prelude.{◌≡◌, ℕ, ◌+◌, ◌*◌, ◌≤◌, List, [], ◌∷◌, ◌++◌, length, take, drop}
 use Rattle.std.specs.List.{flat_map}
 use Rattle.ic_term.specs.Tree.{Tree, Pair}
 use Rattle.ic_term.specs.Configuration.{Configuration, IsConfiguration, IsWide}
@@ -26,6 +26,11 @@ sides es = flat_map (λ e. e.left ∷ e.right ∷ []) es
 -- the words of a configuration in the order of the text, the interface before the equations
 abbrev pub configuration_words : Configuration → List Word
 configuration_words c = flat_map tree_words (c.interface ++ sides c.equations)
+
+-- the place after so many terms of words
+pub record IsAfterTerms (ws : List Word) (terms place : ℕ) : Type 0 where
+  pub within : place ≤ length ws
+  pub rest : forest (drop place ws) ≡ drop terms (forest ws)
 
 -- What the words of a configuration keep, with so many terms in its interface and so many equations.
 pub record IsFlat (ws : List Word) (terms equations next : ℕ) : Type 0 where

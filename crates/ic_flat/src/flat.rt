@@ -5,7 +5,7 @@ ghost use Rattle.ic_term.specs.Configuration.{IsConfiguration, configuration_nod
 ghost use Rattle.ic_term.specs.declared.limits.TheConstants.{MAX_NODES, MAX_INTERFACE};
 ghost use Rattle.ic_term.specs.ConfigFault.{Answers};
 ghost use Rattle.ic_flat.specs.Words.{forest, IsWhole};
-ghost use Rattle.ic_flat.specs.Flat.{configuration_of, configuration_words, IsFlat};
+ghost use Rattle.ic_flat.specs.Flat.{configuration_of, configuration_words, IsAfterTerms, IsFlat};
 
 use crate::reading::{take_equations, take_terms, terms_of};
 use crate::wide::WideFlat;
@@ -106,6 +106,22 @@ impl Flat {
         Flat { wide }
     }
 
+    /// The same, where the words of the equations are known to begin at this place. Takes a few steps.
+    pub fn with_place(
+        words: Vec<Word>,
+        terms: usize,
+        equations: usize,
+        next: u64,
+        place: usize,
+    ) -> Flat
+        requires flat { IsFlat words.items terms equations next }
+        requires place { IsAfterTerms words.items terms place }
+        ensures { result ≡ configuration_of words.items terms next }
+    {
+        let wide = WideFlat::with_place(words, terms, equations, next, place);
+        Flat { wide }
+    }
+
     /// The words, how many terms of the interface and how many equations they write, and `next`.
     pub fn into_parts(self) -> (Vec<Word>, usize, usize, u64)
         ensures flat { IsFlat result.0.items result.1 result.2 result.3 }
@@ -146,6 +162,14 @@ impl Flat {
         ensures sound { IsConfiguration self.now }
     {
         self.wide.interface_len()
+    }
+
+    /// The place after the words of the interface, where those of the equations begin.
+    pub fn equations_place(&self) -> usize
+        ensures place { IsAfterTerms (configuration_words self.now) (length self.now.interface) result }
+        ensures sound { IsConfiguration self.now }
+    {
+        self.wide.equations_place()
     }
 
     /// How many equations there are.

@@ -2,6 +2,7 @@
 
 ghost use Rattle.std.specs.Prelude.{◌≡◌, ◌<◌, ◌≤◌, length, drop};
 ghost use Rattle.ic_flat.specs.Words.{forest, IsWhole};
+ghost use Rattle.ic_flat.specs.Flat.{IsAfterTerms};
 
 use crate::word::Word;
 
@@ -18,6 +19,19 @@ pub fn end_of_term(words: &[Word], place: usize) -> usize
     while due > 0 {
         due = due - 1 + words[end].arguments();
         end += 1;
+    }
+    end
+}
+
+/// The place after so many terms. Takes as many steps as they have nodes.
+pub(crate) fn end_of_terms(words: &[Word], count: usize) -> usize
+    requires whole { IsWhole words.now }
+    requires there { count ≤ length (forest words.now) }
+    ensures { IsAfterTerms words.now count result }
+{
+    let mut end = 0;
+    for _ in 0..count {
+        end = end_of_term(words, end);
     }
     end
 }

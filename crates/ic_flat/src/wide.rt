@@ -4,8 +4,9 @@ ghost use Rattle.std.specs.Prelude.{◌≡◌, ◌+◌, ◌*◌, length, IfOk};
 ghost use Rattle.ic_term.specs.Configuration.{IsWide, configuration_nodes, configured, wide_restored};
 ghost use Rattle.ic_term.specs.ConfigFault.{Answers};
 ghost use Rattle.ic_flat.specs.Words.{forest, IsWhole};
-ghost use Rattle.ic_flat.specs.Flat.{configuration_of, configuration_words, IsWideFlat};
+ghost use Rattle.ic_flat.specs.Flat.{configuration_of, configuration_words, IsAfterTerms, IsWideFlat};
 
+use crate::places::end_of_terms;
 use crate::testing::{one_above, test_words};
 use crate::word::Word;
 use ic_term::ConfigFault;
@@ -20,12 +21,14 @@ pub struct WideFlat {
     terms: usize,
     equations: usize,
     next: u64,
+    /// Where the words of the equations begin.
+    place: usize,
 }
 
 impl Model for WideFlat {
     ghost use Rattle.ic_term.specs.Configuration.{Configuration};
     ghost use Rattle.ic_term.specs.lemmas.Codings.{coded_configuration};
-    ghost use Rattle.ic_flat.specs.Flat.{configuration_of, IsWideFlat};
+    ghost use Rattle.ic_flat.specs.Flat.{configuration_of, IsAfterTerms, IsWideFlat};
 
     ghost Value = { Configuration };
 
@@ -33,7 +36,8 @@ impl Model for WideFlat {
 
     ghost view = { λ f. configuration_of f.words.items f.terms f.next };
 
-    ghost invariant = { λ f. IsWideFlat f.words.items f.terms f.equations f.next };
+    ghost invariant = { λ f. IsWideFlat f.words.items f.terms f.equations f.next
+        × IsAfterTerms f.words.items f.terms f.place };
 }
 
 impl WideFlat {
@@ -52,11 +56,13 @@ impl WideFlat {
     {
         wide_ones_are_configurations_but_for_their_limits();
         test_words(alloc, &words, terms, equations, next)?;
+        let place = end_of_terms(&words, terms);
         Ok(WideFlat {
             words,
             terms,
             equations,
             next,
+            place,
         })
     }
 
@@ -81,11 +87,28 @@ impl WideFlat {
         requires { IsWideFlat words.items terms equations next }
         ensures { result ≡ configuration_of words.items terms next }
     {
+        let place = end_of_terms(&words, terms);
+        WideFlat::with_place(words, terms, equations, next, place)
+    }
+
+    /// The same, where the words of the equations are known to begin at this place. Takes a few steps.
+    pub fn with_place(
+        words: Vec<Word>,
+        terms: usize,
+        equations: usize,
+        next: u64,
+        place: usize,
+    ) -> WideFlat
+        requires flat { IsWideFlat words.items terms equations next }
+        requires place { IsAfterTerms words.items terms place }
+        ensures { result ≡ configuration_of words.items terms next }
+    {
         WideFlat {
             words,
             terms,
             equations,
             next,
+            place,
         }
     }
 
@@ -120,6 +143,14 @@ impl WideFlat {
         self.terms
     }
 
+    /// The place after the words of the interface, where those of the equations begin.
+    pub fn equations_place(&self) -> usize
+        ensures place { IsAfterTerms (configuration_words self.now) (length self.now.interface) result }
+        ensures sound { IsWide self.now }
+    {
+        self.place
+    }
+
     /// How many equations there are.
     pub fn equations_len(&self) -> usize
         ensures equations { result ≡ length self.now.equations }
@@ -152,6 +183,7 @@ impl WideFlat {
             terms: self.terms,
             equations: self.equations,
             next: self.next,
+            place: self.place,
         })
     }
 }

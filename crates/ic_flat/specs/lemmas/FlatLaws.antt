@@ -16,8 +16,8 @@ use Rattle.ic_term.specs.Configuration.{Configuration, IsConfiguration, configur
 use Rattle.ic_term.specs.lemmas.ConfigurationEq.{configuration_eq-Decides}
 use Rattle.ic_flat.specs.declared.word.Word.{Word}
 use Rattle.ic_flat.specs.Words.{forest, IsWhole, tree_words, word_eq, word_names, is_word_over}
-use Rattle.ic_flat.specs.Flat.{pairs_of, sides, configuration_of, configuration_words, IsFlat}
-use Rattle.ic_flat.specs.lemmas.WordLaws.{forest-words, whole-words, words-forest, nodes-forest}
+use Rattle.ic_flat.specs.Flat.{pairs_of, sides, configuration_of, configuration_words, IsAfterTerms, IsFlat}
+use Rattle.ic_flat.specs.lemmas.WordLaws.{forest-flat_map, forest-words, whole-words, words-forest, nodes-forest}
 use Rattle.ic_flat.specs.lemmas.WordTests.{names-forest, over-forest, word_eq-Decides}
 
 -- ---- sides and equations
@@ -101,6 +101,24 @@ module _ (ws : List Word) (terms equations next : ℕ) (counted : length (forest
   -- its words are these
   pub words-configuration_of : IsWhole ws → configuration_words (configuration_of ws terms next) ≡ ws
   words-configuration_of whole = ap (flat_map tree_words) all_terms-configuration_of ∙ words-forest ws whole
+
+  -- the place after so many of its terms is that after its interface
+  pub interface-configuration_of : (place : ℕ) → IsWhole ws → IsAfterTerms ws terms place
+      → IsAfterTerms (configuration_words (configuration_of ws terms next)) (length (configuration_of ws terms next).interface) place
+  interface-configuration_of place whole is = rw (words-configuration_of whole, length-interface) is
+
+-- ---- places
+
+-- after the words of terms come those of the terms after them
+pub after-words : (ts us : List Tree) (ws : List Word) (terms place : ℕ) → ws ≡ flat_map tree_words ts ++ flat_map tree_words us
+    → terms ≡ length ts → place ≡ length (flat_map tree_words ts) → IsAfterTerms ws terms place
+after-words ts us ws terms place is count before =
+    let written : forest ws ≡ ts ++ us = ap forest is ∙ forest-flat_map ts (flat_map tree_words us) ∙ ap (λ l. ts ++ l) (forest-words us) in
+    let left : drop place ws ≡ flat_map tree_words us = ap (drop place) is ∙ drop_at (flat_map tree_words ts) (flat_map tree_words us) place (sym before) in
+    record {
+      within = omega (arith, before, ap length is, length-append (flat_map tree_words ts) (flat_map tree_words us));
+      rest = ap forest left ∙ forest-words us ∙ sym (ap (drop terms) written ∙ drop_at ts us terms (sym count));
+    }
 
 -- ---- the words of a configuration
 

@@ -6,4 +6,4 @@ pub returns-clause-words : goal.returns-clause-words
 returns-clause-words c =
     let f = c.self.inside in
     rw (← c.self.view_is)
-    (c.as_slice.ensures.value ∙ sym (words-configuration_of f.words.items f.terms f.equations f.next c.self.invariant.counted c.self.invariant.whole))
+    (c.as_slice.ensures.value ∙ sym (words-configuration_of f.words.items f.terms f.equations f.next c.self.invariant.0.counted c.self.invariant.0.whole))
