@@ -24,7 +24,8 @@ pub fn is_settled(flat: &Flat) -> bool
     flat.equations_len() == 0 || has_no_applicable(flat)
 }
 
-/// The same, by a table of the names.
+/// The same, by a table of the names. It isn't inlined, since who calls it would pay for the stack of that table.
+#[inline(never)]
 fn has_no_applicable(flat: &Flat) -> bool
     ensures { result ≡ is_none (settling_step flat.now) }
 {

@@ -21,21 +21,7 @@ pub struct Sides {
 pub fn equations_place(flat: &Flat) -> usize
     ensures { IsEquationsPlace flat.now result }
 {
-    end_of_terms(flat.words(), flat.interface_len())
-}
-
-/// The place after so many terms.
-fn end_of_terms(words: &[Word], count: usize) -> usize
-    requires whole { IsWhole words.now }
-    requires there { count ≤ length (forest words.now) }
-    ensures within { result ≤ length words.now }
-    ensures rest { forest (drop result words.now) ≡ drop count (forest words.now) }
-{
-    let mut end = 0;
-    for _ in 0..count {
-        end = end_of_term(words, end);
-    }
-    end
+    flat.equations_place()
 }
 
 /// The places of the sides of the equation that begins at a place.

@@ -2,6 +2,7 @@
 use Rattle.std.proofs.Common.{◌≡◌, ℕ, ◌+◌, ◌-◌, ◌*◌, ◌<◌, ◌≤◌, ◌==◌, List, [], ◌∷◌, ◌++◌, Bool, ◌&&◌, ◌||◌, length, take, drop, get_or, sum_by, not, None, nat_le, refl, sym, ap, ◌∙◌, subst, arith, append-nil, append_assoc}
 use Rattle.std.specs.List.{flat_map, list_any}
 use Rattle.std.proofs.lemmas.List.{drop_more, length-drop, length-append, length-take-le, take_at, drop_at}
+use Rattle.std.proofs.lemmas.List.Concat.{flat_map-append}
 use Rattle.std.proofs.lemmas.List.Sums.{sum_by-cons, sum_by-append}
 use Rattle.ic_term.specs.Tree.{Tree, name, agent, trees_of, Pair, nodes, names, pair_nodes}
 use Rattle.ic_term.specs.Configuration.{Configuration, IsConfiguration, configuration_nodes}
@@ -15,10 +16,10 @@ use Rattle.ic_round.specs.lemmas.Sizes.{fired_nodes}
 use Rattle.ic_flat.specs.declared.word.Word.{Word}
 use Rattle.ic_flat.specs.declared.word.Word.TheVariants.{Name, Agent}
 use Rattle.ic_flat.specs.Words.{arguments as word_arguments, with_word, forest, IsWhole, tree_words, word_names, word_eq}
-use Rattle.ic_flat.specs.Flat.{pairs_of, sides, configuration_words}
+use Rattle.ic_flat.specs.Flat.{pairs_of, sides, configuration_words, IsAfterTerms}
 use Rattle.ic_flat.specs.lemmas.WordLaws.{whole-drop, whole-words, words-forest, nodes-forest, forest-le, forest-words}
 use Rattle.ic_flat.specs.lemmas.WordTests.{names-forest}
-use Rattle.ic_flat.specs.lemmas.FlatLaws.{pairs_of-sides, length-sides, forest-configuration_words, counted-configuration_words, nodes-words}
+use Rattle.ic_flat.specs.lemmas.FlatLaws.{after-words, pairs_of-sides, length-sides, forest-configuration_words, counted-configuration_words, nodes-words}
 use Rattle.ic_flat_rules.specs.declared.places.Sides.{Sides}
 use Rattle.ic_term.specs.lemmas.TreeLaws.{list_of-trees_of}
 use Rattle.ic_flat_rules.specs.RuleWords.{pairs_words}
@@ -125,11 +126,6 @@ applicable_where all ws side other end n d found twice whole there is stands fou
 
 -- ---- equations
 
--- while terms are missing, there is a word
-pub more_there : (ws : List Word) (end counter count : ℕ) → count ≤ length (forest ws) → counter < count → forest (drop end ws) ≡ drop counter (forest ws) → end < length ws
-more_there ws end counter count enough some rest =
-    omega (arith, enough, some, ap length rest, length-drop counter (forest ws), forest-le (drop end ws), length-drop end ws)
-
 -- after the first of an even number of terms there is one more
 pub right_there : (ws : List Word) (place right : ℕ) → place < length ws → AreInTwos ws place
     → forest (drop right ws) ≡ drop 1 (forest (drop place ws)) → right < length ws
@@ -201,6 +197,14 @@ interface_nodes c place within after =
       ap (sum_by nodes) (forest-configuration_words c),
       sum_by-append nodes c.interface (sides c.equations),
     )
+
+-- after as many words as the interface has nodes
+pub after_interface : (c : Configuration) (ws : List Word) (terms place : ℕ) → ws ≡ configuration_words c → terms ≡ length c.interface → place ≡ sum_by nodes c.interface
+    → IsAfterTerms ws terms place
+after_interface c ws terms place is count before =
+    let front = flat_map tree_words c.interface in
+    let long : sum_by nodes c.interface ≡ length front = ap (sum_by nodes) (sym (forest-words c.interface)) ∙ nodes-forest front in
+    after-words c.interface (sides c.equations) ws terms place (is ∙ flat_map-append tree_words c.interface (sides c.equations)) count (before ∙ long)
 
 -- where the equations begin, all of them are left
 pub pairs_start : (c : Configuration) (ws : List Word) (place : ℕ) → ws ≡ configuration_words c → forest (drop place (configuration_words c)) ≡ sides c.equations
