@@ -184,3 +184,14 @@ module _ {V : Type 0} (o x : ℕ) (p : V) (es es' : List (ℕ × V)) (unlike : o
       | inr e ↦ ap (cond (nat_eq y o) (Some p)) (updates y ∙ ap (λ b. cond b None (lookup (nat_eq y) es)) e)
           ∙ sym (ap (λ b. cond b None (lookup (nat_eq y) ((o, p) ∷ es))) e)
     ]
+
+-- ---- no entries
+
+pub none_in : {V : Type 0} (es : List (ℕ × V)) (x : ℕ) → es ≡ [] → (None ≡ lookup (nat_eq x) es)
+    × ((y : ℕ) → lookup (nat_eq y) es ≡ cond (nat_eq x y) None (lookup (nat_eq y) es)) × (es ≡ remove_entry (nat_eq x) es)
+none_in {V} es x none =
+    (sym (ap (lookup (nat_eq x)) none), λ y. by (nat_eq x y) (lookup (nat_eq y) es) (ap (lookup (nat_eq y)) none), none ∙ sym (ap (remove_entry (nat_eq x)) none))
+  where
+    by : (b : Bool) (o : Option V) → o ≡ None → o ≡ cond b None o
+    by true o e = e
+    by false o e = refl

@@ -3,6 +3,7 @@ use Rattle.std.proofs.Common.{◌≡◌, ℕ, zero, suc, ◌<◌, ◌==◌, List
 use Rattle.std.proofs.Math.ListN.{set}
 use Rattle.std.proofs.lemmas.Bool.{cases_Bool, eqb-true, eq-eqb, true≢false}
 use Rattle.std.proofs.lemmas.Option.{slice_get_past}
+use Rattle.ic_settle.specs.lemmas.Containers.{noted}
 use Rattle.ic_flat_round.specs.declared.places.Spot.{Spot}
 use Rattle.ic_flat_round.specs.inner.Places.{slot_of, spot_in, spot_of, spot_tells}
 
@@ -140,3 +141,14 @@ module _ (slots : List ℕ) (spots : List Spot) (shift : ℕ) (s : Spot) where
     | inr e ↦ ap (λ v. spot_tells (spot_of slots spots shift y) v y) (is ∙ ap (λ b. cond b (Some (s.first, s.last)) other) e)
         ∙ sym (ap (λ b. cond b (Some (s.first, s.last)) (spot_tells (spot_of slots spots shift y) other y)) e)
   ]
+
+-- ---- one more container
+
+-- what is found of names, where that of one name has one more container
+pub noted_by : (name place first : ℕ) (old new : ℕ → Option (ℕ × ℕ)) → Some (first, place) ≡ noted place (old name)
+    → ((y : ℕ) → new y ≡ cond (name == y) (Some (first, place)) (old y)) → (y : ℕ) → new y ≡ cond (name == y) (noted place (old y)) (old y)
+noted_by name place first old new is put y = elim (cases_Bool (name == y)) [
+  | inl e ↦ put y ∙ ap (λ b. cond b (Some (first, place)) (old y)) e ∙ is ∙ ap (λ x. noted place (old x)) (eqb-true name y e)
+      ∙ sym (ap (λ b. cond b (noted place (old y)) (old y)) e)
+  | inr e ↦ put y ∙ ap (λ b. cond b (Some (first, place)) (old y)) e ∙ sym (ap (λ b. cond b (noted place (old y)) (old y)) e)
+]

@@ -75,6 +75,30 @@ pub(crate) fn bind(bound: &mut Bound, name: u64, place: usize) -> Result<(), All
     }
 }
 
+/// What a tree has for a name, which is taken out. Most often there is none.
+fn taken(others: &mut BTreeMap<u64, usize>, name: u64) -> Option<usize>
+    ensures value { result ≡ lookup (nat_eq name) others.old.entries }
+    ensures updates { (y : ℕ) → lookup (nat_eq y) others.new.entries
+        ≡ (if nat_eq name y then None else lookup (nat_eq y) others.old.entries) }
+    ensures entries { others.new.entries ≡ remove_entry (nat_eq name) others.old.entries }
+    ensures unchanged { IfNone result (others.new.entries ≡ others.old.entries) }
+{
+    if others.is_empty() {
+        return None;
+    }
+    others.remove(&name)
+}
+
+/// Whether a tree has a name.
+fn has(others: &BTreeMap<u64, usize>, name: u64) -> bool
+    ensures { result ≡ is_some (lookup (nat_eq name) others.now.entries) }
+{
+    if others.is_empty() {
+        return false;
+    }
+    others.contains_key(&name)
+}
+
 /// What a name is bound to, which is taken out.
 pub(crate) fn unbound(bound: &mut Bound, name: u64) -> Option<usize>
     ensures value { result ≡ lookup (nat_eq name) bound.old.entries }
@@ -88,8 +112,8 @@ pub(crate) fn unbound(bound: &mut Bound, name: u64) -> Option<usize>
             bound.last = None;
             Some(place)
         }
-        Some(_) => bound.others.remove(&name),
-        None => bound.others.remove(&name),
+        Some(_) => taken(&mut bound.others, name),
+        None => taken(&mut bound.others, name),
     }
 }
 
@@ -99,8 +123,8 @@ pub(crate) fn is_bound(bound: &Bound, name: u64) -> bool
 {
     match bound.last {
         Some((last, _)) if last == name => true,
-        Some(_) => bound.others.contains_key(&name),
-        None => bound.others.contains_key(&name),
+        Some(_) => has(&bound.others, name),
+        None => has(&bound.others, name),
     }
 }
 

@@ -82,6 +82,9 @@ impl Places {
     fn other(&self, name: u64) -> Option<(usize, usize)>
         ensures { result ≡ get nat_cmp self.now.others name }
     {
+        if self.others.is_empty() {
+            return None;
+        }
         self.others.get(&name).copied()
     }
 
@@ -90,23 +93,10 @@ impl Places {
         ensures { OnOk result ((y : ℕ) → found self.new y
             ≡ (if name == y then noted place (found self.old y) else found self.old y)) }
     {
-        let first = first_of(self.get(name), place);
-        self.set(Spot {
-            name,
-            first,
-            last: place,
-        })
-    }
-
-    /// Puts the containers of a name in the place of those that were noted.
-    fn set(&mut self, spot: Spot) -> Result<(), AllocError>
-        ensures { OnOk result ((y : ℕ) → found self.new y
-            ≡ (if spot.name == y then Some (spot.first, spot.last) else found self.old y)) }
-    {
-        let slot = slot_of(self.shift, spot.name);
+        let slot = slot_of(self.shift, name);
         match self.number(slot) {
-            Some(number) => self.set_at(slot, number, spot),
-            None => self.set_other(spot),
+            Some(number) => self.note_at(slot, number, name, place),
+            None => self.note_other(name, place),
         }
     }
 
@@ -123,47 +113,65 @@ impl Places {
     }
 
     /// The same for a name whose slot leads to this number.
-    fn set_at(&mut self, slot: usize, number: usize, spot: Spot) -> Result<(), AllocError>
-        requires slot { slot ≡ slot_of self.old.shift spot.name }
+    fn note_at(
+        &mut self,
+        slot: usize,
+        number: usize,
+        name: u64,
+        place: usize,
+    ) -> Result<(), AllocError>
+        requires slot { slot ≡ slot_of self.old.shift name }
         requires number { slice_get self.old.slots.items slot ≡ Some number }
         ensures { OnOk result ((y : ℕ) → found self.new y
-            ≡ (if spot.name == y then Some (spot.first, spot.last) else found self.old y)) }
+            ≡ (if name == y then noted place (found self.old y) else found self.old y)) }
     {
         match self.numbered(number) {
-            Some(there) if there.name == spot.name => {
-                self.spots[number] = spot;
+            Some(there) if there.name == name => {
+                self.spots[number] = Spot {
+                    name,
+                    first: there.first,
+                    last: place,
+                };
                 Ok(())
             }
-            Some(there) if slot_of(self.shift, there.name) == slot => self.set_other(spot),
-            Some(_) => self.set_new(slot, spot),
-            None => self.set_new(slot, spot),
+            Some(there) if slot_of(self.shift, there.name) == slot => self.note_other(name, place),
+            Some(_) => self.note_new(slot, name, place),
+            None => self.note_new(slot, name, place),
         }
     }
 
     /// The same for a name whose slot no name has.
-    fn set_new(&mut self, slot: usize, spot: Spot) -> Result<(), AllocError>
-        requires slot { slot ≡ slot_of self.old.shift spot.name }
+    fn note_new(&mut self, slot: usize, name: u64, place: usize) -> Result<(), AllocError>
+        requires slot { slot ≡ slot_of self.old.shift name }
         requires within { slot < length self.old.slots.items }
         requires free { (there : Spot) → spot_of self.old.slots.items self.old.spots.items
-            self.old.shift spot.name ≡ Some there → slot_of self.old.shift there.name ≡ slot → ⊥ }
+            self.old.shift name ≡ Some there → slot_of self.old.shift there.name ≡ slot → ⊥ }
+        requires passes { (v : Option (ℕ × ℕ)) → spot_tells (spot_of self.old.slots.items
+            self.old.spots.items self.old.shift name) v name ≡ v }
         ensures { OnOk result ((y : ℕ) → found self.new y
-            ≡ (if spot.name == y then Some (spot.first, spot.last) else found self.old y)) }
+            ≡ (if name == y then noted place (found self.old y) else found self.old y)) }
     {
+        let first = first_of(self.other(name), place);
         self.slots[slot] = self.spots.len();
-        self.spots.push(spot)?;
+        self.spots.push(Spot {
+            name,
+            first,
+            last: place,
+        })?;
         Ok(())
     }
 
     /// The same for a name whose slot another name has.
     #[cold]
     #[inline(never)]
-    fn set_other(&mut self, spot: Spot) -> Result<(), AllocError>
+    fn note_other(&mut self, name: u64, place: usize) -> Result<(), AllocError>
         requires { (v : Option (ℕ × ℕ)) → spot_tells (spot_of self.old.slots.items
-            self.old.spots.items self.old.shift spot.name) v spot.name ≡ v }
+            self.old.spots.items self.old.shift name) v name ≡ v }
         ensures { OnOk result ((y : ℕ) → found self.new y
-            ≡ (if spot.name == y then Some (spot.first, spot.last) else found self.old y)) }
+            ≡ (if name == y then noted place (found self.old y) else found self.old y)) }
     {
-        self.others.insert(spot.name, (spot.first, spot.last))?;
+        let first = first_of(self.other(name), place);
+        self.others.insert(name, (first, place))?;
         Ok(())
     }
 }

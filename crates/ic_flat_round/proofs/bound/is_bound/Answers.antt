@@ -1,9 +1,9 @@
-use Rattle.std.proofs.Common.{◌≡◌, ◌++◌, ℕ, Bool, List, Option, None, sym, ap, ◌∙◌, subst}
+use Rattle.std.proofs.Common.{◌≡◌, ◌++◌, ℕ, List, Option, None, sym, ap, ◌∙◌, subst}
 use Rattle.std.specs.Prelude.{nat_eq, is_some, IfSome}
 use Rattle.std.specs.Map.{lookup}
 use Rattle.std.specs.Option.{option_to_list}
 use Rattle.ic_flat_round.specs.inner.Bindings.{Bindings}
-use Rattle.ic_flat_round.proofs.BoundEntries.{same_test, taken_front, other_value}
+use Rattle.ic_flat_round.proofs.BoundEntries.{taken_front, other_value}
 use Rattle.ic_flat_round.proofs.bound.is_bound.Goals as goal
 
 pub returns-in-Some : goal.returns-in-Some
@@ -17,7 +17,7 @@ pub returns-in-Some-2 : goal.returns-in-Some-2
 returns-in-Some-2 c =
     let others = c.bound.inside.others.entries in
     let before = sym (ap (λ (b : Bindings). b.entries) c.bound.view_is) ∙ ap (λ (l : Option (ℕ × ℕ)). option_to_list l ++ others) c.in-Some.is in
-    c.contains_key.ensures ∙ ap (λ (t : ℕ → Bool). is_some (lookup t others)) (same_test c.args.name)
+    c.has.ensures
     ∙ ap is_some (sym (other_value c.in-Some.last c.args.name _ others others c.if-last-name.false))
     ∙ ap (λ (l : List (ℕ × ℕ)). is_some (lookup (nat_eq c.args.name) l)) (sym before)
 
@@ -25,5 +25,5 @@ pub returns-in-None : goal.returns-in-None
 returns-in-None c =
     let others = c.bound.inside.others.entries in
     let before = sym (ap (λ (b : Bindings). b.entries) c.bound.view_is) ∙ ap (λ (l : Option (ℕ × ℕ)). option_to_list l ++ others) c.in-None.is in
-    c.contains_key-in-None.ensures ∙ ap (λ (t : ℕ → Bool). is_some (lookup t others)) (same_test c.args.name)
+    c.has-in-None.ensures
     ∙ ap (λ (l : List (ℕ × ℕ)). is_some (lookup (nat_eq c.args.name) l)) (sym before)
