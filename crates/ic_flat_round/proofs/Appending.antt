@@ -17,7 +17,7 @@ goes_on-next start now new all xs left g a =
     record {
       items = ap (λ l. l ++ left) a.items ∙ append_assoc now.items xs left ∙ g.items;
       len = omega (arith, len, added, length-append xs left);
-      capacity = same ∙ capacity;
+      capacity = omega (arith, capacity, same);
       room = omega (arith, room, added, same, length-append xs left);
     }
 
@@ -25,10 +25,12 @@ pub appended-both : {X Z : Type 0} (old half new : Vec X Z) (xs ys : List X) →
 appended-both old half new xs ys a b =
     let first = a.len in
     let last = b.len in
+    let before = a.capacity in
+    let after = b.capacity in
     record {
       items = b.items ∙ ap (λ l. l ++ ys) a.items ∙ append_assoc old.items xs ys;
       len = omega (arith, first, last, length-append xs ys);
-      capacity = b.capacity ∙ a.capacity;
+      capacity = omega (arith, before, after);
     }
 
 pub goes_on_to-next : {X Z : Type 0} (start now new : Vec X Z) (all xs left : List X) → GoesOnTo start all now (xs ++ left) → Appended now new xs
@@ -36,8 +38,10 @@ pub goes_on_to-next : {X Z : Type 0} (start now new : Vec X Z) (all xs left : Li
 goes_on_to-next start now new all xs left g a =
     let len = g.len in
     let added = a.len in
+    let before = g.capacity in
+    let after = a.capacity in
     record {
       items = ap (λ l. l ++ left) a.items ∙ append_assoc now.items xs left ∙ g.items;
       len = omega (arith, len, added, length-append xs left);
-      capacity = a.capacity ∙ g.capacity;
+      capacity = omega (arith, before, after);
     }

@@ -10,8 +10,8 @@ use Rattle.ic_settle.specs.lemmas.Waiting.{put_each, put_each_pair, IsDelayed}
 use Rattle.ic_settle.specs.lemmas.Passed.{put_in, IsPassed}
 use Rattle.ic_flat.specs.declared.word.Word.{Word}
 use Rattle.ic_flat.specs.Words.{forest, tree_words}
-use Rattle.ic_flat.specs.Flat.{sides, configuration_words, configuration_of, IsFlat}
-use Rattle.ic_flat.specs.lemmas.FlatLaws.{forest-configuration_words}
+use Rattle.ic_flat.specs.Flat.{sides, configuration_words, configuration_of, IsAfterTerms, IsFlat}
+use Rattle.ic_flat.specs.lemmas.FlatLaws.{after-words, forest-configuration_words}
 use Rattle.ic_flat_round.specs.inner.Rebuilding.{state, words_put, PutsOn}
 use Rattle.ic_flat_round.proofs.Interacting.{flat_parts}
 
@@ -32,23 +32,35 @@ module _ (c : Configuration) (kept : List Pair) (es es' es'' : List (ℕ × Tree
       let one = first s.bs (flat_map pair_names kept) (transport D (sym interface) s.delayed) in
       (sym (append-nil done) ∙ one.0 ∙ (λ i. empty i ++ words_put s.bs (interface i)), one.1)
 
-  pub written : done' ≡ configuration_words (put_in s.bs c kept)
-  written =
+  put_second : done' ≡ words_put s.bs c.interface ++ words_put s.bs (sides kept)
+  put_second =
       let D : List ℕ → Type 0 = λ ns. IsDelayed s.bs es' ns in
       let spread : flat_map pair_names kept ≡ flat_map names (sides kept) ++ [] = sym (append-nil (flat_map names (sides kept)) ∙ names_of-sides kept) in
       let two = second s.bs [] (transport D spread put_first.1) in
+      sym (append-nil done') ∙ two.0 ∙ (λ i. put_first.0 i ++ words_put s.bs (sides kept))
+
+  pub written : done' ≡ configuration_words (put_in s.bs c kept)
+  written =
       let put = map (put_each s.bs) c.interface in
-      sym (append-nil done') ∙ two.0 ∙ (λ i. put_first.0 i ++ flat_map tree_words (put-sides s.bs kept i))
+      put_second ∙ (λ i. words_put s.bs c.interface ++ flat_map tree_words (put-sides s.bs kept i))
       ∙ sym (flat_map-append tree_words put (sides (map (put_each_pair s.bs) kept)))
 
--- the parts of the settled configuration, in flat form
-pub settled_parts : (c : Configuration) (kept : List Pair) (es es' es'' : List (ℕ × Tree)) (given : List Tree) (start done done' : List Word) (terms equations next : ℕ) (s : IsPassed c kept es)
+  -- the equations begin after what was written first
+  pub placed : (terms place : ℕ) → terms ≡ length c.interface → place ≡ length done → IsAfterTerms done' terms place
+  placed terms place count before =
+      after-words (map (put_each s.bs) c.interface) (map (put_each s.bs) (sides kept)) done' terms place put_second (count ∙ sym (length-map c.interface (put_each s.bs)))
+      (before ∙ ap length put_first.0)
+
+-- the parts of the settled configuration, in flat form, and where its equations begin
+pub settled_parts : (c : Configuration) (kept : List Pair) (es es' es'' : List (ℕ × Tree)) (given : List Tree) (start done done' : List Word) (terms equations next place : ℕ) (s : IsPassed c kept es)
     → given ≡ c.interface → start ≡ [] → PutsOn (state es start given) (state es' done []) → PutsOn (state es' done (sides kept)) (state es'' done' [])
-    → terms ≡ length c.interface → equations ≡ length kept → next ≡ c.next
-    → IsFlat done' terms equations next × (configuration_of done' terms next ≡ put_in s.bs c kept)
-settled_parts c kept es es' es'' given start done done' terms equations next s interface empty first second count number last =
+    → terms ≡ length c.interface → equations ≡ length kept → next ≡ c.next → place ≡ length done
+    → IsFlat done' terms equations next × (configuration_of done' terms next ≡ put_in s.bs c kept) × IsAfterTerms done' terms place
+settled_parts c kept es es' es'' given start done done' terms equations next place s interface empty first second count number last before =
+    let flat =
     flat_parts (put_in s.bs c kept) done' terms equations next s.valid (written c kept es es' es'' given start done done' s interface empty first second)
-    (count ∙ sym (length-map c.interface (put_each s.bs))) (number ∙ sym (length-map kept (put_each_pair s.bs))) last
+    (count ∙ sym (length-map c.interface (put_each s.bs))) (number ∙ sym (length-map kept (put_each_pair s.bs))) last in
+    (flat.0, flat.1, placed c kept es es' es'' given start done done' s interface empty first second terms place count before)
 
 -- the terms of the interface stand first
 pub interface_terms : (c : Configuration) (ws : List Word) (terms : ℕ) → ws ≡ configuration_words c → terms ≡ length c.interface → take terms (forest ws) ≡ c.interface

@@ -176,7 +176,7 @@ pub(crate) fn fire_onto(
     match put_configuration(rules, flat, place, &mut words) {
         Some(Reached { equations, next }) => {
             let terms = flat.interface_len();
-            Ok(Flat::from_parts(words, terms, equations, next))
+            Ok(Flat::with_place(words, terms, equations, next, place))
         }
         None => Err(refusal(rule_set, flat, place)),
     }

@@ -9,14 +9,42 @@ ghost use Rattle.ic_flat_rules.specs.Standing.{tree_at, IsTermAt};
 
 use ic_flat::{Word, end_of_term};
 
+/// So many words are copied at once. Fewer are copied sooner one by one.
+const MANY: usize = 16;
+
 /// Appends words.
+#[inline(always)]
 pub(crate) fn put_copied(words: &[Word], out: &mut Vec<Word>)
+    requires { HasRoom out.old words.now }
+    ensures { Appended out.old out.new words.now }
+{
+    if words.len() < MANY {
+        put_each(words, out)
+    } else {
+        put_at_once(words, out)
+    }
+}
+
+/// Appends words one by one.
+#[inline(always)]
+fn put_each(words: &[Word], out: &mut Vec<Word>)
     requires { HasRoom out.old words.now }
     ensures { Appended out.old out.new words.now }
 {
     for word in words {
         out.push_reserved(*word);
     }
+}
+
+/// Appends words by one copy of them all.
+#[inline(never)]
+fn put_at_once(words: &[Word], out: &mut Vec<Word>)
+    requires { HasRoom out.old words.now }
+    ensures { Appended out.old out.new words.now }
+{
+    let Ok(()) = out.extend_from_slice(words) else {
+        unreachable!()
+    };
 }
 
 /// Appends words with their names made higher by the base.

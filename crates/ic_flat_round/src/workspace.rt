@@ -67,6 +67,7 @@ impl Workspace {
             count: terms,
         };
         put_terms(words, interface, &mut self.bound, &mut self.stack, &mut out)?;
+        let place = out.len();
         put_equations(
             words,
             &self.kept,
@@ -74,7 +75,8 @@ impl Workspace {
             &mut self.stack,
             &mut out,
         )?;
-        Ok(Flat::from_parts(out, terms, self.kept.len(), flat.next()))
+        let equations = self.kept.len();
+        Ok(Flat::with_place(out, terms, equations, flat.next(), place))
     }
 
     /// Makes a round of a configuration, in its place. Where it is refused, the configuration stays.
@@ -105,7 +107,7 @@ impl Workspace {
         Ok(())
     }
 
-    /// The configuration after one round, in a list of its own that is no longer than its words.
+    /// The configuration after one round, in a list of its own that is at most a quarter longer than its words.
     pub fn next(
         &mut self,
         alloc: Global,
@@ -123,11 +125,29 @@ impl Workspace {
     {
         let words = mem::replace(&mut self.fired, Vec::new(alloc));
         let fired = fire_onto(rules, flat, words)?;
-        let settled = self.settle(alloc, &fired)?;
-        let after = settled.copy(alloc)?;
+        let after = self.settle_apart(alloc, &fired)?;
         let (fired, _, _, _) = fired.into_parts();
-        let (settled, _, _, _) = settled.into_parts();
         self.fired = fired;
+        Ok(after)
+    }
+
+    /// The configuration, settled, in a list of its own that is at most a quarter longer than its words. It is copied into
+    /// one only if the list that it is made in is longer than that.
+    fn settle_apart(&mut self, alloc: Global, flat: &Flat) -> Result<Flat, AllocError>
+        ensures { IfOk result (λ after. after ≡ settled flat.now) }
+    {
+        let words = flat.words().len();
+        let is_short = self.settled.capacity() < words;
+        if is_short {
+            self.settled = Vec::new(alloc);
+        }
+        let settled = self.settle(alloc, flat)?;
+        let len = settled.words().len();
+        if is_short && words.saturating_sub(len) <= len / 4 {
+            return Ok(settled);
+        }
+        let after = settled.copy(alloc)?;
+        let (settled, _, _, _) = settled.into_parts();
         self.settled = settled;
         Ok(after)
     }

@@ -14,9 +14,9 @@ returns-clause-reached c =
     let rs = c.args.rules.now.rules in
     let flat = c.args.flat.now in
     let made = fired_where_fit rs flat c.in_ok-fired.fired (fired rs flat) c.in_ok-fired.ensures.fired in
-    subst (λ (d : Configuration). Steps rs flat d) (sym (c.in_ok-after.ensures ∙ c.in_ok-settled.ensures.settled ∙ ap settled made)) (round_reached rs flat)
+    subst (λ (d : Configuration). Steps rs flat d) (sym (c.in_ok-after.ensures ∙ ap settled made)) (round_reached rs flat)
 
 pub returns-clause-over : goal.returns-clause-over
 returns-clause-over c =
     let ss = c.args.rules.now.symbols in
-    ap (is_over ss) (c.in_ok-after.ensures ∙ c.in_ok-settled.ensures.settled) ∙ settled_over ss c.in_ok-fired.fired c.in_ok-fired.ensures.over
+    ap (is_over ss) c.in_ok-after.ensures ∙ settled_over ss c.in_ok-fired.fired c.in_ok-fired.ensures.over

@@ -1,6 +1,6 @@
 use Rattle.std.proofs.Common.{drop}
 use Rattle.ic_flat_round.specs.inner.Room.{GoesOn}
-use Rattle.ic_flat_round.proofs.firing.put_copied.Given as goal
+use Rattle.ic_flat_round.proofs.firing.put_each.Given as goal
 
 -- the later ones are left
 abbrev pub invariant-loop-word : goal.invariant-loop-word
