@@ -14,6 +14,23 @@ use ic_flat::{Flat, Word};
 use ic_term::Symbols;
 use std::alloc::{AllocError, Global};
 
+/// Up to so many bytes are pushed one by one.
+const FEW: usize = 3;
+
+/// Appends the text of a symbol. Most have a few bytes, and pushing these takes less than a copy does.
+#[inline(always)]
+fn put_symbol(text: &[u8], out: &mut Vec<u8>) -> Result<(), AllocError>
+    ensures { OnOk result (out.new.items ≡ out.old.items ++ text.now) }
+{
+    if text.len() > FEW {
+        return out.extend_from_slice(text);
+    }
+    for byte in text {
+        out.push(*byte)?;
+    }
+    Ok(())
+}
+
 /// Appends the text of a name or of a symbol.
 fn put_head(symbols: &Symbols, word: Word, out: &mut Vec<u8>) -> Result<(), AllocError>
     requires { IsTrue (is_word_over symbols.now word) }
@@ -21,7 +38,7 @@ fn put_head(symbols: &Symbols, word: Word, out: &mut Vec<u8>) -> Result<(), Allo
 {
     match word {
         Word::Name(name) => put_name(name, out),
-        Word::Agent(sym, _) => out.extend_from_slice(symbols.text(sym)),
+        Word::Agent(sym, _) => put_symbol(symbols.text(sym), out),
     }
 }
 
