@@ -1,5 +1,6 @@
 //! What standard error is told at the first answer of a serving which says that a line has a fault.
 
+use memchr::memchr;
 use std::io::{self, IsTerminal, Write};
 
 /// What is told there.
@@ -33,36 +34,44 @@ impl<'a, W> Answers<'a, W> {
         }
     }
 
-    /// Whether such an answer ends with this byte. The answer of a job with the name `bad` has a configuration, and so
-    /// a `<`.
-    fn ends_bad(&mut self, byte: u8) -> bool {
-        if byte == b'\n' {
-            let is_bad = self.is_bad && self.count == BAD.len();
-            self.count = 0;
-            self.is_bad = true;
-            return is_bad;
-        }
-        if byte == b'<' {
-            self.is_bad = false;
-        }
-        if self.count < BAD.len() {
-            self.is_bad = self.is_bad && BAD[self.count] == byte;
+    /// Compares what comes next of an answer. The answer of a job with the name `bad` has a configuration, and so a `<`.
+    fn compare(&mut self, bytes: &[u8]) {
+        for byte in bytes {
+            if self.count >= BAD.len() {
+                break;
+            }
+            self.is_bad = self.is_bad && BAD[self.count] == *byte;
             self.count += 1;
         }
-        false
+        self.is_bad = self.is_bad && !bytes.contains(&b'<');
+    }
+
+    /// Tells of an answer that has ended, if it says that a line has a fault.
+    fn end(&mut self) {
+        if self.is_bad && self.count == BAD.len() {
+            self.is_due = false;
+            let _ = self.rt.stderr().write_all(HINT);
+        }
+        self.count = 0;
+        self.is_bad = true;
     }
 
     /// Looks through answers that were written.
     fn look(&mut self, bytes: &[u8]) {
-        for byte in bytes {
+        let mut rest = bytes;
+        for _ in 0..bytes.len() {
             if !self.is_due {
                 return;
             }
-            if self.ends_bad(*byte) {
-                self.is_due = false;
-                let _ = self.rt.stderr().write_all(HINT);
-            }
+            let Some(end) = memchr(b'\n', rest) else {
+                break;
+            };
+            let (answer, after) = rest.split_at(end);
+            self.compare(answer);
+            self.end();
+            rest = &after[1..];
         }
+        self.compare(rest);
     }
 }
 
