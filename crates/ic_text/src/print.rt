@@ -14,7 +14,8 @@ use ic_term::{Cell, Config, Equation, Symbols, Term};
 use itoa::Buffer;
 use std::alloc::{AllocError, Global};
 
-/// Appends a number in digits.
+/// Appends a number in digits. A single digit is pushed in place, since most numbers are small.
+#[inline(always)]
 pub fn put_decimal(number: u64, out: &mut Vec<u8>) -> Result<(), AllocError>
     ensures { OnOk result (out.new.items ≡ out.old.items ++ decimal number) }
 {
@@ -22,6 +23,14 @@ pub fn put_decimal(number: u64, out: &mut Vec<u8>) -> Result<(), AllocError>
         out.push(b'0' + number as u8)?;
         return Ok(());
     }
+    put_digits(number, out)
+}
+
+/// Appends a number in digits.
+#[inline(never)]
+fn put_digits(number: u64, out: &mut Vec<u8>) -> Result<(), AllocError>
+    ensures { OnOk result (out.new.items ≡ out.old.items ++ decimal number) }
+{
     let mut digits = Buffer::new();
     out.extend_from_slice(digits.format(number).as_bytes())
 }
