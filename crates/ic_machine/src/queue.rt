@@ -73,13 +73,15 @@ impl Queue {
         Some(self.equations[end - 1])
     }
 
-    /// Takes the memory for so many more. Where more than half were taken, it takes their memory first, by time that is theirs.
+    /// Takes the memory for so many more. Where more is needed and more than half were taken, it takes their memory first, by time
+    /// that is theirs.
     pub(crate) fn reserve(&mut self, more: usize) -> Result<(), AllocError>
         ensures items { self.new.items ≡ self.old.items }
         ensures capacity { self.old.capacity ≤ self.new.capacity }
         ensures room { OnOk result (length self.old.items + more ≤ self.new.capacity) }
     {
-        if self.len() < self.taken {
+        let free = self.equations.capacity() - self.equations.len();
+        if free < more && self.len() < self.taken {
             self.close_up();
         }
         self.equations.reserve(more)
