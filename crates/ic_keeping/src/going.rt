@@ -503,7 +503,7 @@ impl<T: Threads + Sync, C: Clock + Sync, V: Watch> Run<'_, T, C, V> {
                     self.clock,
                     self.alloc,
                     system,
-                    self.policy,
+                    self.policy.expecting(bounds.steps),
                     bounds,
                     watch,
                 )?;

@@ -122,7 +122,19 @@ impl Desk {
     ) -> Result<usize, AllocError>
         requires { part < length self.now.parts.items }
     {
-        let pairs = self.oldest(part, policy);
+        self.within(alloc, part, self.oldest(part, policy), nodes)
+    }
+
+    /// How many of the first so many pending pairs of a part have fewer than so many nodes below them.
+    fn within(
+        &self,
+        alloc: Global,
+        part: usize,
+        pairs: usize,
+        nodes: usize,
+    ) -> Result<usize, AllocError>
+        requires { part < length self.now.parts.items }
+    {
         match &self.parts[part] {
             Some(kept) => kept.machine.pairs_within(alloc, pairs, nodes),
             None => Ok(0),

@@ -36,6 +36,12 @@ pub struct Policy {
     pub loss: u64,
     /// One of so many of those that steps took may be lost, too.
     pub trust: u64,
+    /// Interactions that are expected of the run, or 0 where none are known.
+    pub expected: u64,
+    /// A large net is divided by its nodes where so many interactions are expected for each of them.
+    pub spread: u64,
+    /// Parts into which it is divided so.
+    pub large: usize,
 }
 
 impl Policy {
@@ -57,6 +63,9 @@ impl Policy {
           worth = 70;
           loss = 2000000;
           trust = 16;
+          expected = 0;
+          spread = 16;
+          large = 3 * max workers 1;
         } }
     {
         let workers = workers.max(1) as usize;
@@ -76,7 +85,35 @@ impl Policy {
             worth: 70,
             loss: 2_000_000,
             trust: 16,
+            expected: 0,
+            spread: 16,
+            large: 3 * workers,
         }
+    }
+
+    /// The same for a run of which so many interactions are expected.
+    pub fn expecting(self, interactions: u64) -> Policy
+        ensures { result ≡ record self { expected = interactions } }
+    {
+        let mut policy = self;
+        policy.expected = interactions;
+        policy
+    }
+
+    /// How many nodes each part gets of a net of so many that is divided by them, or 0 where it isn't: where parts would be
+    /// light, or too few interactions are expected.
+    pub fn nodes_each(&self, nodes: u64) -> u64
+        ensures light { nodes / max self.now.large 1 < self.now.light → result ≡ 0 }
+        ensures short { self.now.expected / max self.now.spread 1 < nodes → result ≡ 0 }
+        ensures each { self.now.light ≤ nodes / max self.now.large 1
+            → nodes ≤ self.now.expected / max self.now.spread 1
+            → result ≡ nodes / max self.now.large 1 }
+    {
+        let each = nodes / (self.large as u64).max(1);
+        if each < self.light as u64 || self.expected / self.spread.max(1) < nodes {
+            return 0;
+        }
+        each
     }
 
     /// Interactions of a worker in the next step, after so many in all, where so many parts have something to do. A short

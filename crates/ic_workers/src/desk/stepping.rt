@@ -161,8 +161,39 @@ impl Desk {
         let near = policy.early.min(gauge.room(self.nodes(gauge)));
         let steps = near.min(most - self.made);
         self.run_alone(clock, alloc, program, 0, steps)?;
+        let each = policy.nodes_each(self.nodes(gauge)) as usize;
+        self.spread(alloc, program, policy, each)?;
         self.divide(clock, alloc, program, policy, gauge, most)?;
         self.take_steps(rt, clock, alloc, program, policy, gauge, most, watch)
+    }
+
+    /// Gives the oldest pairs of the first part to new ones: to each as many as have fewer nodes below them than each is to get,
+    /// or one. So a large net is divided that has few pairs, with much below each.
+    fn spread(
+        &mut self,
+        alloc: Global,
+        program: &Program,
+        policy: Policy,
+        each: usize,
+    ) -> Result<(), AllocError>
+        requires desk { IsDesk program.now self.old }
+        requires some { 1 ≤ length self.old.parts.items }
+        ensures come { OnOk result
+            (Come program.now (parts_at self.old) (parts_at self.new)) }
+        ensures desk { OnOk result (IsDesk program.now self.new) }
+        ensures made { self.new.made ≡ self.old.made }
+    {
+        for _ in 1..policy.large {
+            let pairs = self.pending(0);
+            let to = self.parts.len();
+            if each == 0 || pairs < 2 || to >= MOST_PARTS {
+                return Ok(());
+            }
+            let few = self.within(alloc, 0, pairs - 1, each)?;
+            self.add(alloc, program)?;
+            self.share(alloc, 0, to, few.max(1))?;
+        }
+        Ok(())
     }
 
     /// Makes the first parts, in this thread.

@@ -13,5 +13,7 @@ returns-clause-come g c =
     ok_then c.take_steps.result (λ took.
     come_on c.args.program.now (parts_at c.args.self.now) (parts_at c.run_alone.new.self) (parts_at c.take_steps.new.self)
     c.in_ok-run_alone.ensures.come
-    (come_on c.args.program.now (parts_at c.run_alone.new.self) (parts_at c.divide.new.self) (parts_at c.take_steps.new.self)
-    c.in_ok-divide.ensures.come took)) c.take_steps.ensures.come
+    (come_on c.args.program.now (parts_at c.run_alone.new.self) (parts_at c.spread.new.self) (parts_at c.take_steps.new.self)
+    c.in_ok-spread.ensures.come
+    (come_on c.args.program.now (parts_at c.spread.new.self) (parts_at c.divide.new.self) (parts_at c.take_steps.new.self)
+    c.in_ok-divide.ensures.come took))) c.take_steps.ensures.come
