@@ -253,6 +253,11 @@ class Refusals(Trial):
             refused(line, *words, given=unending)
         wide = "{} <|" + ",".join(["A=A"] * 301) + ">"
         refused("the net has 602 nodes before the first round, and a film shows at most 600", given=wide)
+        line = "the net has 1020 nodes after round 9, with which the film begins, and a film shows at most 600"
+        for words in ([], ["--rounds", 0], ["--rounds", 3]):
+            refused(line, "--from", 9, *words, given=unending)
+        for begin in ([], ["--from", 8]):
+            self.equals("film --rounds 0", f"frames: {begin}", 1, len(self.page(*begin, "--rounds", 0, given=unending).frames))
         endless = "{A(B(x))><B(A(x))} <|A(x)=B(x)>"
         refused("a film shows at most 200 rounds: --rounds 200 ends there", given=endless)
         refused("a film shows at most 200 rounds: --rounds 200 ends there", "--rounds", 201, given=endless)
