@@ -541,7 +541,9 @@ class Ends(Listens):
                 self.answers(client, "list", "jobs")
                 os.kill(listening.child(), sign)
                 self.equals("a server that was killed", "what came", b"", client.rest())
-                self.equals("a server that was killed", "the status", status, listening.end(None)[0])
+                came, err = listening.end(None)
+                line = f"icserve-listen: icserve serve was killed by signal {sign.value}: begin this script anew, and all that it has answered is there"
+                self.equals("a server that was killed", "the status, and whether a line says so", (status, True), (came, line in err.splitlines()))
 
     def test_a_socket_of_systemd_is_taken_and_left(self):
         """The script is started as the unit in examples/ says."""
@@ -573,7 +575,8 @@ class Ends(Listens):
 
 class Sends(Listens):
     def send(self, *words, given=b"", path=None):
-        return run("--socket", path or self.room / "socket", *words, given=given, program=TOP / "send")
+        env = {**os.environ, "ICSERVE": PROGRAM}
+        return run("--socket", path or self.room / "socket", *words, given=given, program=TOP / "send", env=env)
 
     def test_lines_are_sent_and_their_answers_printed(self):
         with self.listening():
@@ -602,21 +605,34 @@ class Sends(Listens):
                 told = f"icserve-send: {self.room}/{name} is not submitted: {said}".encode()
                 self.equals(ran.command, "what is told", told, (ran.err + ran.after)[: len(told)])
 
-    def test_at_a_line_that_is_answered_by_bad_it_is_told_what_tells_more(self):
-        told = "icserve-send: a line was answered `bad`: `icserve check -` tells what is wrong in such lines, but doesn't know `wait NAME` and `shutdown`\n"
+    def test_what_is_wrong_with_a_line_that_is_answered_by_bad_is_told(self):
+        """Each line is told by its number, of which lines that aren't sent have one too, and no more than twenty are."""
+        command = "bad syntax: a command is looked for here: submit, copy, pause, resume, cancel, fetch, list or run; a file with one text begins with { or <"
+        name = "bad syntax: a job's name is looked for here: a small letter, then small letters, digits and -"
+        run_at_most = "bad limit: a run makes at most 1000 rounds"
+        more = "icserve-send: more lines were answered `bad`: `icserve check -` tells what is wrong in such lines\n"
+
+        def told(*faults):
+            return "".join(f"icserve-send: line {line}, column {column}: {fault}\n" for line, column, fault in faults)
+
         quotes = "icserve-send: each LINE is one argument: put it in quotes, as 'fetch two'\n"
         with self.listening():
-            self.ended(self.send("lst", "run 2000", "list"), ["bad syntax", "bad limit", "jobs"], told)
-            self.ended(self.send("fetch", "two"), ["bad syntax", "bad syntax"], told + quotes)
-            self.ended(self.send("wait"), ["bad syntax"], told)
+            self.ended(self.send("lst", "", "list", "run 2000"), ["bad syntax", "jobs", "bad limit"], told((1, 1, command), (4, 5, run_at_most)))
+            self.ended(self.send("fetch", "two"), ["bad syntax", "bad syntax"], told((1, 6, name), (2, 1, command)) + quotes)
+            self.ended(self.send("wait", " wait No"), ["bad syntax"] * 2, told((1, 5, name), (2, 7, name)))
+            self.ended(self.send("{A><B} <|>"), ["bad syntax"], told((1, 1, command)))
+            unsent = self.send(f"submit no @{self.room}/none.ic", "run 2000")
+            self.equals(unsent.command, "the last line", told((2, 5, run_at_most)).encode(), (unsent.err + unsent.after)[-len(told((2, 5, run_at_most))) :])
+            self.ended(self.send(given=b"run 2000\n" * 25), ["bad limit"] * 25, told(*((it, 5, run_at_most) for it in range(1, 21))) + more)
             self.ended(self.send("submit bad {} <|>", "fetch bad"), ["accepted", "bad done 0 <|>"])
 
     def test_a_missing_answer_is_told(self):
         with self.listening():
             ran = self.send(given=b"list\n" + b"x" * (LONGEST + 1))
-            self.ended(ran, f"jobs\nclosed: long line: a line has at most {LONGEST} bytes\n", status=1)
-        told = b"icserve-send: the server has ended, and a line has no answer: `list` and `fetch` tell what was done\n"
-        for kills_child, wanted in ((True, (1, b"closed: the server has ended\n", b"")), (False, (1, b"", told))):
+            rest = "a line has no answer: `list` and `fetch` tell what was done\n"
+            self.ended(ran, "jobs\n", f"icserve-send: closed: long line: a line has at most {LONGEST} bytes; {rest}", status=1)
+        for kills_child, why in ((True, "closed: the server has ended;"), (False, "the server has ended, and")):
+            wanted = (1, b"", f"icserve-send: {why} {rest}".encode())
             with self.listening(disk=self.disk(f"{kills_child}.disk")) as listening:
                 with listening.client() as client:
                     client.ask(f"submit loop {LOOP.text}")
@@ -701,6 +717,9 @@ class Sends(Listens):
         how = {"program": TOP / "send", "env": env}
         self.ended(run("--disk", disk, f"submit two {TWO.text}", "run 10", " ", "fetch two", **how), ["accepted", "ran 2", "two done 2 <S(S(Z))|>"])
         self.ended(run("--disk", disk, given=b"list\n\nlist", **how), ["jobs two:done:2"] * 2)
+        faulty = run("--disk", disk, f"submit no @{self.room}/none.ic", "run 2000", **how)
+        told = b"line 2, column 5: bad limit: a run makes at most 1000 rounds\n"
+        self.equals(faulty.command, "status, answer, and what is told last", (1, b"bad limit\n", told), (faulty.status, faulty.out, (faulty.err + faulty.after)[-len(told) :]))
         with self.listening(disk=disk):
             self.ended(run("--disk", disk, "list", **how), b"", b"icserve: locked\n", status=6)
 
