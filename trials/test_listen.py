@@ -619,7 +619,8 @@ class Sends(Listens):
         with self.listening():
             self.ended(self.send("lst", "", "list", "run 2000"), ["bad syntax", "jobs", "bad limit"], told((1, 1, command), (4, 5, run_at_most)))
             self.ended(self.send("fetch", "two"), ["bad syntax", "bad syntax"], told((1, 6, name), (2, 1, command)) + quotes)
-            self.ended(self.send("wait", " wait No"), ["bad syntax"] * 2, told((1, 5, name), (2, 7, name)))
+            self.ended(self.send("wait"), ["bad syntax"], told((1, 5, name)))
+            self.ended(self.send(given=b"list\n wait No"), ["jobs", "bad syntax"], told((2, 7, name)))
             self.ended(self.send("{A><B} <|>"), ["bad syntax"], told((1, 1, command)))
             unsent = self.send(f"submit no @{self.room}/none.ic", "run 2000")
             self.equals(unsent.command, "the last line", told((2, 5, run_at_most)).encode(), (unsent.err + unsent.after)[-len(told((2, 5, run_at_most))) :])
