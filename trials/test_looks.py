@@ -17,6 +17,7 @@ from worked_rows import expanded, rows
 TWO = f"{ADD} <r|Add(r,S(Z))=S(Z)>"
 DOUBLES = "{D(D(x,y),D(z,w))><E(E(x,y),E(z,w))}<|D(a,b)=E(a,b)>"
 GRAPH = ["graph net {", "node [shape=plaintext, width=0, height=0]", "edge [arrowsize=0.7]"]
+NOT_DONE = b"icserve: not done\n"
 HEAD = "round\tpairs\tnodes\tequations\tnames"
 SVG = "{http://www.w3.org/2000/svg}"
 
@@ -86,7 +87,7 @@ class Rows(Trial):
         self.equals("reduce", "ends that no row has", set(), {0, b"stuck", b"not", b"bad"} - seen)
 
     def test_each_row_that_is_traced_has_its_table_its_picture_or_its_objects(self):
-        tried = 0
+        tried, cut = 0, set()
         for name, kind, count, text, answer in asked(list(SHOWN)):
             shown = SHOWN[kind]
             with self.subTest(name=name, kind=kind, rounds=count):
@@ -94,11 +95,14 @@ class Rows(Trial):
                     continue
                 ran = run("trace", "--rounds", count, "--format", shown, "--limits", "served", given=text)
                 if answer.startswith((b"round\t", b"<svg", b"{")):
-                    self.ended(ran, out=answer)
+                    is_cut = run("reduce", "--rounds", count, "--limits", "served", given=text).status == 5
+                    cut.add((kind, is_cut))
+                    self.ended(ran, out=answer, err=NOT_DONE * is_cut)
                 else:
                     self.ended(ran, err=b"icserve: " + answer + b"\n", status=1)
                 tried += 1
         self.equals("trace", f"more than ten rows: {tried}", True, tried > 10)
+        self.equals("trace", f"tables and pictures that are cut, and that aren't: {cut}", 4, len({it for it in cut if it[0] != "objects"}))
 
     def test_what_is_shown_before_a_bound_is_the_trace_of_the_rounds_before_it(self):
         """A table, a picture and objects of a system that grows without end."""
@@ -119,7 +123,33 @@ class Rows(Trial):
         self.runs("trace", "--format", "tsv", given=TWO, out=table)
         self.refuses("reduce", "--rounds", 10**6, given=LOOP.text, out=["<|A(a)=B(a)>"], line="not done", status=5)
         ran = run("trace", given=LOOP.text)
-        self.equals(ran.command, "status, and how many lines", (0, 10**6 + 1), (ran.status, ran.out.count(b"\n")))
+        self.equals(ran.command, "status, what is told, and how many lines", (0, NOT_DONE, 10**6 + 1), (ran.status, ran.err, ran.out.count(b"\n")))
+
+    def test_figures_of_a_cut_trace_are_told_as_partial(self):
+        """By the million rounds that are made if no number is said, by a number, and by a round that is broken off."""
+        eaten = "#rich\n{number S Z; E><S(E);E><Z} <|E=%d>"
+        for count, words, rounds in ((1_000_000, [], 10**6), (5, ["--rounds", 3], 3), (5, ["--rounds", 0], 0)):
+            average = "1.0" if rounds else "0.0"
+            told = f"icserve: work {rounds}, partial span {rounds}, pairs at once {average} on average, {min(rounds, 1)} at most\n".encode()
+            ran = run("trace", "--stats", *words, given=eaten % count)
+            self.equals(ran.command, "status, and what is told", (0, told + NOT_DONE), (ran.status, ran.err))
+            told = {"work": rounds, "span": rounds, "average": float(average), "greatest": min(rounds, 1), "partial": True}
+            ran = run("trace", "--stats", "--format", "json", *words, given=eaten % count)
+            figures, rest = ran.err.split(b"\n", 1)
+            self.equals(ran.command, "status, and what is told", (0, told, NOT_DONE), (ran.status, json.loads(figures), rest))
+        ran = run("trace", "--stats", "--nodes", 10_000, given=DOUBLES)
+        told = (ran.err + ran.after).split(b"\n")
+        self.equals(ran.command, "status, and what is told", (1, b"icserve: overgrown"), (ran.status, told[1]))
+        self.equals(ran.command, f"its figures: {told[0]}", True, b", partial span " in told[0])
+
+    def test_figures_of_a_whole_trace_are_not(self):
+        """Also if as many rounds are made as may be, or a stuck pair is left."""
+        for text, words, work in ((TWO, [], 2), (TWO, ["--rounds", 2], 2), ("{A><B} <|A=B,A=C>", [], 1)):
+            told = f"icserve: work {work}, span {work}, pairs at once 1.0 on average, 1 at most\n".encode()
+            ran = run("trace", "--stats", *words, given=text)
+            self.equals(ran.command, "status, and what is told", (0, told), (ran.status, ran.err))
+            ran = run("trace", "--stats", "--format", "json", *words, given=text)
+            self.equals(ran.command, "whether it is partial", (0, False), (ran.status, json.loads(ran.err)["partial"]))
 
     def test_as_many_rounds_as_there_may_be_are_taken(self):
         self.runs("reduce", "--rounds", MOST, given=TWO, out=["<S(S(Z))|>"])
@@ -245,10 +275,10 @@ class Objects(Trial):
 class Pictures(Trial):
     rooms = IN_MEMORY
 
-    def drawn(self, text, words=()):
+    def drawn(self, text, words=(), err=b""):
         """The picture of a text, which is well-formed: its title, and how many bars and points it has."""
         ran = run("trace", "--format", "svg", *words, given=text)
-        self.equals(ran.command, "status and standard error", (0, b""), (ran.status, ran.err))
+        self.equals(ran.command, "status and standard error", (0, err), (ran.status, ran.err))
         picture = xml.fromstring(ran.out)
         self.equals(ran.command, "what the picture is", f"{SVG}svg", picture.tag)
         bars = picture.findall(f".//{SVG}g/{SVG}rect")
@@ -289,11 +319,11 @@ class Pictures(Trial):
 
     def test_one_round_is_one_round_and_none_are_no_rounds(self):
         for text, rounds, title in (
-            (TWO, 1, "1 round, 1 interaction, at most 1 and on average 1.0 in a round"),
-            (TWO, 0, "0 rounds, 0 interactions, at most 0 and on average 0.0 in a round"),
+            (TWO, 1, "partial: 1 round, 1 interaction, at most 1 and on average 1.0 in a round"),
+            (TWO, 0, "partial: 0 rounds, 0 interactions, at most 0 and on average 0.0 in a round"),
             (TWO, 2, "2 rounds, 2 interactions, at most 1 and on average 1.0 in a round"),
         ):
-            came, bars, points = self.drawn(text, ["--rounds", rounds])
+            came, bars, points = self.drawn(text, ["--rounds", rounds], NOT_DONE * title.startswith("partial: "))
             self.equals(f"trace --rounds {rounds}", "the title", title, came)
             wanted = rounds, [["0,3500"], ["0,3500", "6400,3500"], ["0,3500", "3200,3500", "6400,1500"]][rounds]
             self.equals(f"trace --rounds {rounds}", "bars, and points, the first of them before the rounds", wanted, (len(bars), points))
@@ -311,7 +341,7 @@ class Pictures(Trial):
                     text = (TOP / "examples/fibonacci.rich").read_bytes().replace(b"= 10>", b"= 28>")
                 else:
                     text = (TOP / "examples" / f"{name}.ic").read_bytes()
-                self.runs("trace", "--format", "svg", *words, given=text, out=picture.read_bytes())
+                self.runs("trace", "--format", "svg", *words, given=text, out=picture.read_bytes(), err=NOT_DONE * bool(dash))
 
 
 class Faults(Trial):

@@ -1,6 +1,7 @@
 """The options `reduce --span` and `--profile`: they tell of a reduction in any order, by any number of threads, what `trace` tells of
 rounds, over drawn systems and those of bench/. So many are drawn as the variable SYSTEMS says, of 400 if it isn't set."""
 
+import contextlib
 import json
 import os
 import re
@@ -127,6 +128,24 @@ class Profiles(Trial):
         self.equals(str(path), "bars", bars.findall(trace), bars.findall(picture))
         self.equals(str(path), "title", re.findall(r"middle'>(.*?)</text>", trace), re.findall(r"middle'>(.*?)</text>", picture))
         self.equals(str(path), "whether there is a line", (False, False), ("polyline" in picture, "nodes" in picture))
+        self.refuses("reduce", "--quiet-answer", "--steps", 3, "--profile", path, given=SORT, line="not done", status=5)
+        self.equals(str(path), "how a title begins that is cut", True, "middle'>partial: 3 rounds, 3 interactions, " in path.read_text())
+
+    def test_a_profile_is_not_written_over_the_text(self):
+        """That is refused with the words, whether the text is in a file or on standard input, and by whatever path."""
+        text, other = self.room / "sort.ic", self.room / "other.ic"
+        text.write_text(SORT)
+        other.symlink_to(text)
+        for words, how in (([text], {}), ([other], {}), ([], {"stdin": text})):
+            for path in (text, other):
+                with contextlib.ExitStack() as opened:
+                    given = {it: opened.enter_context(open(path, "rb")) for it, path in how.items()}
+                    ran = run("reduce", "--profile", path, *words, **given)
+                self.equals(ran.command, "how it ends", (2, b"", b"error: --profile would overwrite the text\n"), (ran.status, ran.out, ran.err + ran.after))
+                self.equals(str(text), "what it holds", SORT, text.read_text())
+        with open(os.devnull, "rb") as nothing:
+            ran = run("reduce", "--profile", os.devnull, stdin=nothing)
+        self.equals(ran.command, "how it ends", (1, b"icserve: bad syntax\n"), (ran.status, ran.err))
 
     def test_a_text_without_interactions(self):
         for text in ("{}<|>", "{}<x|x=y,y=Z>", "{A><B}<|A=A>"):

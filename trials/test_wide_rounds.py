@@ -141,7 +141,7 @@ class WideRounds(Trial):
         self.equals(ran.command, "what all did", (b"%d" % work, b"%d" % span, average.encode(), b"%d" % greatest), told and told.groups())
         objects = run("trace", "--stats", "--format", "json", given=text)
         self.equals(objects.command, "rows", rows, [tuple(json.loads(it).values()) for it in objects.out.splitlines()])
-        wanted = {"work": work, "span": span, "average": float(average), "greatest": greatest}
+        wanted = {"work": work, "span": span, "average": float(average), "greatest": greatest, "partial": False}
         self.equals(objects.command, "what all did", wanted, json.loads(objects.err))
 
     def test_a_sort_of_300_is_traced_and_cut_anywhere(self):
@@ -173,7 +173,8 @@ class WideRounds(Trial):
             seen["unsettled"] += bool(rows) and rows[0][1] == 0
             seen["circles"] += bool(circles_of(after[-1]))
             ran = run("trace", "--rounds", len(rows), given=text)
-            self.equals(ran.command, "status and rows", (0, rows), (ran.status, rows_of(ran)))
+            wanted = (0, rows, b"" if is_quiet else b"icserve: not done\n")
+            self.equals(ran.command, "status, rows and what is told", wanted, (ran.status, rows_of(ran), ran.err))
             if is_quiet:
                 self.agrees(ran.command, "the trace without a bound", ran.out, run("trace", given=text).out)
             count = drawn.randint(0, len(rows))

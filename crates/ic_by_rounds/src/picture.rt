@@ -44,13 +44,17 @@ fn scale_of(columns: &[Column], nodes: u64) -> Scale {
     }
 }
 
-/// Appends how a picture begins, and its title, which says how many rounds a bar is for, if it is for several.
+/// Appends how a picture begins, and its title, which says whether rounds were cut, and how many a bar is for, if it is for
+/// several.
 fn put_title(width: u64, summary: Summary, out: &mut String) -> Result<(), AllocError> {
     out.push_str(
         "<svg xmlns='http://www.w3.org/2000/svg' viewBox='0 0 800 450' font-family='sans-serif'>\n\
          <rect width='800' height='450' fill='white'/>\n\
          <text x='400' y='24' text-anchor='middle'>",
     )?;
+    if summary.is_partial {
+        out.push_str("partial: ")?;
+    }
     put_counted(summary.rounds, "round", out)?;
     put_counted(summary.interactions, "interaction", out)?;
     let (greatest, (whole, tenth)) = (summary.greatest, summary.average());

@@ -4,6 +4,7 @@ use crate::columns::Columns;
 use crate::picture::picture;
 use crate::row::Row;
 use crate::summary::Summary;
+use ic_in_place::End;
 use std::alloc::{AllocError, Global};
 use std::fmt::Write;
 
@@ -19,8 +20,8 @@ pub fn profile_table(alloc: Global, pairs: &[u64]) -> Result<Vec<u8>, AllocError
     Ok(out.into_bytes())
 }
 
-/// The picture of these rounds: bars, as in the picture of a trace.
-pub fn profile_picture(alloc: Global, pairs: &[u64]) -> Result<Vec<u8>, AllocError> {
+/// The picture of these rounds, of a reduction that ended so: bars, as in the picture of a trace.
+pub fn profile_picture(alloc: Global, pairs: &[u64], end: End) -> Result<Vec<u8>, AllocError> {
     let mut columns = Columns::new(alloc);
     for (place, fired) in pairs.iter().enumerate() {
         columns.add(Row {
@@ -31,5 +32,5 @@ pub fn profile_picture(alloc: Global, pairs: &[u64]) -> Result<Vec<u8>, AllocErr
             names: 0,
         })?;
     }
-    picture(alloc, None, &columns, Summary::of_pairs(pairs))
+    picture(alloc, None, &columns, Summary::of_pairs(pairs).ended(end))
 }

@@ -63,7 +63,7 @@ pub fn trace_stream<V: Watch, R: Read, W: Write>(
         &text,
         told,
     )?;
-    tracing.end(reached.rounds, writer)?;
+    tracing.end(reached.rounds, reached.outcome.end, writer)?;
     let summary = tracing.summary;
     Ok(Traced { reached, summary })
 }

@@ -1,6 +1,7 @@
 //! What rounds did all together.
 
 use crate::row::Row;
+use ic_in_place::End;
 use std::alloc::{AllocError, Global};
 
 /// What rounds did all together. A number above 2^64 - 1 is told as 2^64 - 1.
@@ -14,6 +15,8 @@ pub struct Summary {
     pub greatest: u64,
     /// How many nodes there were at most, before the first round and after each.
     pub nodes: u64,
+    /// Whether they were cut: a pair may be left that could fire, so that there may be more rounds.
+    pub is_partial: bool,
 }
 
 impl Summary {
@@ -24,6 +27,7 @@ impl Summary {
             interactions: 0,
             greatest: 0,
             nodes,
+            is_partial: false,
         }
     }
 
@@ -34,6 +38,15 @@ impl Summary {
             interactions: self.interactions.saturating_add(row.pairs),
             greatest: self.greatest.max(row.pairs),
             nodes: self.nodes.max(row.nodes),
+            is_partial: self.is_partial,
+        }
+    }
+
+    /// The same of rounds that ended so.
+    pub fn ended(self, end: End) -> Summary {
+        Summary {
+            is_partial: !matches!(end, End::Quiet),
+            ..self
         }
     }
 
@@ -59,8 +72,10 @@ impl Summary {
 pub fn summary_line(alloc: Global, summary: Summary) -> Result<Vec<u8>, AllocError> {
     let (work, span) = (summary.interactions, summary.rounds);
     let (greatest, (whole, tenth)) = (summary.greatest, summary.average());
+    let partial = if summary.is_partial { "partial " } else { "" };
     let line = format!(in alloc;
-        "icserve: work {work}, span {span}, pairs at once {whole}.{tenth} on average, {greatest} at most\n"
+        "icserve: work {work}, {partial}span {span}, pairs at once {whole}.{tenth} on average, \
+{greatest} at most\n"
     )?;
     Ok(line.into_bytes())
 }
@@ -69,8 +84,10 @@ pub fn summary_line(alloc: Global, summary: Summary) -> Result<Vec<u8>, AllocErr
 pub fn summary_object(alloc: Global, summary: Summary) -> Result<Vec<u8>, AllocError> {
     let (work, span) = (summary.interactions, summary.rounds);
     let (greatest, (whole, tenth)) = (summary.greatest, summary.average());
+    let partial = summary.is_partial;
     let line = format!(in alloc;
-        "{{\"work\":{work},\"span\":{span},\"average\":{whole}.{tenth},\"greatest\":{greatest}}}\n"
+        "{{\"work\":{work},\"span\":{span},\"average\":{whole}.{tenth},\"greatest\":{greatest},\
+\"partial\":{partial}}}\n"
     )?;
     Ok(line.into_bytes())
 }

@@ -19,7 +19,7 @@ use crate::row::Row;
 use crate::rows::{put_head, put_line, put_object};
 use crate::summary::Summary;
 use ic_flat::WideSystem;
-use ic_in_place::Rows;
+use ic_in_place::{End, Rows};
 use ic_machine::Machine;
 use ic_streams::{StreamFault, write_line};
 use std::alloc::{AllocError, Global};
@@ -91,8 +91,13 @@ impl Tracing {
         }
     }
 
-    /// Shows what is left, as all rounds are over that there are.
-    pub(crate) fn end<W: Write>(&mut self, rounds: u64, writer: &mut W) -> Result<(), StreamFault>
+    /// Shows what is left, as all rounds are over that there are: so many, which ended so.
+    pub(crate) fn end<W: Write>(
+        &mut self,
+        rounds: u64,
+        end: End,
+        writer: &mut W,
+    ) -> Result<(), StreamFault>
         ensures all { self.old.format ≡ Lines → 1 ≤ rounds → OnOk result
             (Appends (W.contents writer.old) (W.contents writer.new)
             (self.old.unwritten.items ++ flat_map row_line (option_to_list self.old.held))) }
@@ -103,6 +108,7 @@ impl Tracing {
         if rounds > 0 {
             self.show_held()?;
         }
+        self.summary = self.summary.ended(end);
         match self.format {
             Format::Picture => {
                 let before = Some(self.before);

@@ -103,7 +103,9 @@ fn rest_of_lines(
     out.push_str("\nicserve: ")?;
     put_rules(&outcome.rules, &outcome.by_rule, &mut out)?;
     out.push('\n')?;
-    shares.put_line(&mut out)?;
+    if shared > 0 {
+        shares.put_line(&mut out)?;
+    }
     Ok(out)
 }
 
@@ -112,8 +114,9 @@ fn put_span(outcome: &Outcome, out: &mut String) -> Result<(), AllocError> {
     let Some(pairs) = &outcome.by_round else {
         return Ok(());
     };
-    let (span, whole, tenth, greatest) = span_of(pairs);
-    let partial = if is_cut(outcome) { "partial " } else { "" };
+    let summary = Summary::of_pairs(pairs).ended(outcome.end);
+    let (span, greatest, (whole, tenth)) = (summary.rounds, summary.greatest, summary.average());
+    let partial = if summary.is_partial { "partial " } else { "" };
     write!(
         out,
         ", {partial}span {span}, pairs at once {whole}.{tenth} on average, {greatest} at most"
@@ -125,24 +128,13 @@ fn put_span_members(outcome: &Outcome, out: &mut String) -> Result<(), AllocErro
     let Some(pairs) = &outcome.by_round else {
         return Ok(());
     };
-    let (span, whole, tenth, greatest) = span_of(pairs);
-    let partial = is_cut(outcome);
+    let summary = Summary::of_pairs(pairs).ended(outcome.end);
+    let (span, greatest, (whole, tenth)) = (summary.rounds, summary.greatest, summary.average());
+    let partial = summary.is_partial;
     write!(
         out,
         ",\"span\":{span},\"average\":{whole}.{tenth},\"greatest\":{greatest},\"partial\":{partial}"
     )
-}
-
-/// Whether a reduction has ended where a step may still be possible.
-fn is_cut(outcome: &Outcome) -> bool {
-    !matches!(outcome.end, End::Quiet)
-}
-
-/// The span of rounds that would fire so many pairs each, how many they would on average, the tenths of it, and how many at most.
-fn span_of(pairs: &[u64]) -> (u64, u64, u64, u64) {
-    let summary = Summary::of_pairs(pairs);
-    let (whole, tenth) = summary.average();
-    (summary.rounds, whole, tenth, summary.greatest)
 }
 
 /// Appends how often each rule fired that did.
@@ -252,7 +244,9 @@ fn rest_of_object(
     }
     put_span_members(outcome, &mut out)?;
     write!(out, ",\"threads\":{threads},\"shared\":{shared}")?;
-    shares.put_fields(&mut out)?;
+    if shared > 0 {
+        shares.put_fields(&mut out)?;
+    }
     write!(out, ",\"milliseconds\":{millis},\"interactions_a_second\":")?;
     if millis > 0 {
         let pace = a_second(outcome.interactions, millis);

@@ -71,7 +71,7 @@ pub(crate) fn trace<R: Read>(
     if wanted.is_summed {
         tell_summary(rt, traced.summary, format);
     }
-    trace_ending(&traced, bounds.nodes)
+    trace_ending(rt, &traced, bounds.nodes)
 }
 
 /// Tells on standard error what all rounds did.
@@ -85,15 +85,27 @@ fn tell_summary(rt: &HostRuntime, summary: Summary, format: Format) {
     }
 }
 
-/// How the program ends: a trace of as many rounds as were asked for is whole.
-fn trace_ending(traced: &Traced, nodes: u64) -> Result<(), Failure> {
+/// How the program ends. A trace of as many rounds as it may tell of is no failure, but standard error is told where a step is
+/// still possible.
+fn trace_ending(rt: &HostRuntime, traced: &Traced, nodes: u64) -> Result<(), Failure> {
     match traced.reached.outcome.end {
-        End::Quiet | End::Steps => Ok(()),
+        End::Quiet => Ok(()),
+        End::Steps => {
+            tell_not_done(rt);
+            Ok(())
+        }
         end => reduce_ending(
             end,
             reached_of(&traced.reached.outcome, Some(traced.reached.rounds)),
             nodes,
         ),
+    }
+}
+
+/// Tells on standard error that a step is still possible.
+fn tell_not_done(rt: &HostRuntime) {
+    if let Ok(line) = Failure::NotDone.line(rt.alloc()) {
+        let _ = rt.stderr().write_all(&line);
     }
 }
 

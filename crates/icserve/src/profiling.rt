@@ -3,15 +3,15 @@
 use crate::HostFile;
 use crate::keeping::are_one;
 use crate::standing::stand_ins;
-use ic_args::Values;
 use ic_args::table::{PROFILE, SPAN};
+use ic_args::{Values, WordsFault};
 use ic_by_rounds::{profile_picture, profile_table};
 use ic_causes::{Cause, NotedFiles, NotedOutput, Notes, Target, cause_line};
 use ic_exits::Failure;
-use ic_in_place::Outcome;
+use ic_in_place::{End, Outcome};
 use ic_streams::StreamFault;
-use std::alloc::AllocError;
-use std::fs::{self, OpenFile, OpenOptions, symlink_metadata};
+use std::alloc::{AllocError, Global};
+use std::fs::{self, OpenFile, OpenOptions, metadata, symlink_metadata};
 use std::io::{self, ErrorKind, Write};
 
 /// What is to be known of the rounds in which the pairs of a reduction would have fired.
@@ -58,10 +58,11 @@ pub(crate) struct Profile<'a, 'n> {
 
 impl<'a, 'n> Profile<'a, 'n> {
     /// Opens the place where rounds are written. A file that is there stays as it is, and one that isn't is made. Why it can't be
-    /// had is appended to `told`.
+    /// had is appended to `told`. It may not be the text, which is in the file of a path, or else on standard input.
     pub(crate) fn open(
         rt: &HostRuntime,
         profiled: Profiled<'a>,
+        text: Option<&str>,
         notes: &'n Notes,
         told: &mut Vec<u8>,
     ) -> Result<Profile<'a, 'n>, Failure> {
@@ -70,6 +71,9 @@ impl<'a, 'n> Profile<'a, 'n> {
             return Ok(Profile { profiled, sheet });
         };
         match open_sheet(rt, path, notes) {
+            Ok(Sheet::File { is_new: false, .. }) if is_text(rt, path, text) => {
+                Err(over_text(rt.alloc()))
+            }
             Ok(sheet) => {
                 let sheet = Some(sheet);
                 Ok(Profile { profiled, sheet })
@@ -106,7 +110,7 @@ impl<'a, 'n> Profile<'a, 'n> {
         let Some(path) = self.profiled.path else {
             return Ok(());
         };
-        let Ok(bytes) = bytes_of(rt, path, pairs) else {
+        let Ok(bytes) = bytes_of(rt, path, pairs, outcome.end) else {
             return Err(Failure::Stream(StreamFault::Memory));
         };
         let Some(sheet) = self.sheet.take() else {
@@ -152,6 +156,22 @@ fn open_sheet<'n>(rt: &HostRuntime, path: &str, notes: &'n Notes) -> io::Result<
     Ok(Sheet::File { file, is_new })
 }
 
+/// Whether this path is that of the text: of a plain file that is read by another path, or on standard input.
+fn is_text(rt: &HostRuntime, path: &str, text: Option<&str>) -> bool {
+    match metadata(rt, path) {
+        Ok(found) => found.is_file() && are_one(rt, path, text.unwrap_or("/dev/stdin")),
+        Err(_) => false,
+    }
+}
+
+/// That the profile would be written over the text.
+fn over_text(alloc: Global) -> Failure {
+    match String::from_str(alloc, "error: --profile would overwrite the text\n") {
+        Ok(text) => Failure::Words(WordsFault::Words(text)),
+        Err(_) => Failure::Words(WordsFault::Memory),
+    }
+}
+
 /// Whether nothing has this path, not even a link to a file that isn't there.
 fn is_missing(rt: &HostRuntime, path: &str) -> bool {
     match symlink_metadata(rt, path) {
@@ -174,10 +194,10 @@ fn unwritten(rt: &HostRuntime, path: &str, cause: Option<Cause>, told: &mut Vec<
     Failure::Stream(StreamFault::Write)
 }
 
-/// A picture if the path is that of one, and else a table.
-fn bytes_of(rt: &HostRuntime, path: &str, pairs: &[u64]) -> Result<Vec<u8>, AllocError> {
+/// What is told of these pairs, of a reduction that ended so: a picture if the path is that of one, and else a table.
+fn bytes_of(rt: &HostRuntime, path: &str, pairs: &[u64], end: End) -> Result<Vec<u8>, AllocError> {
     if path.ends_with(".svg") {
-        profile_picture(rt.alloc(), pairs)
+        profile_picture(rt.alloc(), pairs, end)
     } else {
         profile_table(rt.alloc(), pairs)
     }

@@ -7,8 +7,8 @@ use crate::profiling::{Profile, Profiled};
 use crate::reducing::{self, Wanted, threads_for};
 use crate::several::{Among, configurations_of, out_of_memory, refuse_several};
 use ic_args::table::{
-    FIGURES, KEEP, MAX_STEPS, NODES, ONE_FILE, PARTIAL, QUIET, REDUCERS, RESUME, ROUNDS, RULES_TOO,
-    SECONDS, STATS, STEPS,
+    FIGURES, FILE, KEEP, MAX_STEPS, NODES, ONE_FILE, PARTIAL, QUIET, REDUCERS, RESUME, ROUNDS,
+    RULES_TOO, SECONDS, STATS, STEPS,
 };
 use ic_args::{FiguresFormat, Values};
 use ic_exits::Failure;
@@ -31,7 +31,8 @@ pub(super) fn reduce<T: Threads + Wait + Sync>(
     }
     // Where a profile is wanted, its place is opened before the text is read.
     let profiled = Profiled::of(doing.values);
-    let mut profile = Profile::open(doing.rt, profiled, doing.notes, told)?;
+    let text = doing.values.file(&FILE);
+    let mut profile = Profile::open(doing.rt, profiled, text, doing.notes, told)?;
     let reduced = reduce_given(doing, &mut profile, told);
     profile.leave(doing.rt);
     reduced
