@@ -19,7 +19,7 @@ RANGE = re.compile(r"from (\d+) to (\d+)")
 APART = {
     "--rounds": ["--steps", "--workers", "--span", "--profile"],
     "--keep": ["--resume", "--limits", "--span", "--profile"],
-    "--resume": ["--limits", "--rich", "--plain", "--span", "--profile", "FILE"],
+    "--resume": ["--limits", "--span", "--profile", "FILE"],
 }
 GIVEN = {"--limits": "wide", "--format": "json", "--keep": "F", "--resume": "G", "--profile": os.devnull, "FILE": "text"}
 FLAGS = ("--rich", "--plain", "--partial", "--with-rules", "--quiet-answer", "--stats", "--span", "--from-one-file")

@@ -142,7 +142,8 @@ Several may leave the same equations in another order and with other names each 
 Compare the seconds of --stats with those of --workers 1 to see whether several were faster.
 Without --stats or --span, --format changes nothing. The limits served are those of a job's text.
 What --nodes bounds are the names and agents that the net has at a time; a name counts once. They
-are counted often enough that it is passed by a sixteenth and one interaction at most.
+are counted often enough that it is passed by a sixteenth and one interaction at most, unless the
+text itself has more.
 If two agents are left that have no rule, the first pair is told: icserve: stuck A><B
 A rule that --stats doesn't name never fired; an agent inside another term meets nothing.
 
@@ -167,7 +168,8 @@ Example:
 const TRACE: &str = "\
 The format tsv is a table with tabs, svg a picture, and json has objects of JSON, one a line.
 A round fires all active pairs at once, and then removes names that only join two terms.
-icserve reduce tells which pair is stuck, and whether a step is possible after the last round.
+Where a step is still possible after the last round, standard error says icserve: not done, and
+figures and a picture say partial. icserve reduce tells which pair is stuck.
 Of more than 640 rounds a bar of the picture is the sum of several. A row is printed as its round
 is over. --stats tells what all did: work, span, and how many pairs could fire at once.
 

@@ -365,7 +365,7 @@ pub const RESUME: Text = Text {
     name: "resume",
     shown: "F",
     needed: false,
-    apart: &["limits", "file", "rich", "plain", "span", "profile"],
+    apart: &["limits", "file", "span", "profile"],
     help: "Go on with what is kept in F and F.2, and keep it there",
 };
 
