@@ -621,7 +621,7 @@ class Sends(Listens):
             self.ended(self.send("fetch", "two"), ["bad syntax", "bad syntax"], told((1, 6, name), (2, 1, command)) + quotes)
             self.ended(self.send("wait"), ["bad syntax"], told((1, 5, name)))
             self.ended(self.send(given=b"list\n wait No"), ["jobs", "bad syntax"], told((2, 7, name)))
-            self.ended(self.send("{A><B} <|>"), ["bad syntax"], told((1, 1, command)))
+            self.ended(self.send("{A><B} <|>"), ["bad syntax"], told((1, 1, "bad syntax: a system is submitted on one line: submit NAME {RULES} <CONFIG>")))
             unsent = self.send(f"submit no @{self.room}/none.ic", "run 2000")
             self.equals(unsent.command, "the last line", told((2, 5, run_at_most)).encode(), (unsent.err + unsent.after)[-len(told((2, 5, run_at_most))) :])
             self.ended(self.send(given=b"run 2000\n" * 25), ["bad limit"] * 25, told(*((it, 5, run_at_most) for it in range(1, 21))) + more)
