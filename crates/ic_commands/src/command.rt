@@ -9,6 +9,7 @@ ghost use Rattle.ic_commands.specs.LineText.{ReadsLine, IsSubmitText};
 ghost use Rattle.ic_text.specs.Token.{word_of, before, tokens};
 ghost use Rattle.ic_commands.specs.declared.line.Opening.TheVariants as opening;
 ghost use Rattle.ic_commands.specs.inner.Line.{opening_of, opening_text, number_word, is_number_or_none, IsLineOf, IsSubmitLine, ReadsAfter};
+ghost use Rattle.std.specs.Str.{bytes_eq};
 ghost use Rattle.ic_text.specs.Name.{number_in};
 
 use crate::limits::MAX_RUN;
@@ -33,25 +34,33 @@ fn is_number_or_none(text: &[u8]) -> bool
     text.is_empty() || is_number(text)
 }
 
+/// Whether two words are the same. Most differ in length.
+#[inline(always)]
+fn is_same(word: &[u8], other: &[u8]) -> bool
+    ensures { result ≡ bytes_eq word.now other.now }
+{
+    word.len() == other.len() && word == other
+}
+
 /// What the first word of a line asks for.
 fn opening_of(word: &[u8]) -> Option<Opening>
     ensures { result ≡ opening_of word.now }
 {
-    if word == b"submit".as_slice() {
+    if is_same(word, b"submit") {
         Some(Opening::Submit)
-    } else if word == b"copy".as_slice() {
+    } else if is_same(word, b"copy") {
         Some(Opening::Copy)
-    } else if word == b"pause".as_slice() {
+    } else if is_same(word, b"pause") {
         Some(Opening::About(Verb::Pause))
-    } else if word == b"resume".as_slice() {
+    } else if is_same(word, b"resume") {
         Some(Opening::About(Verb::Resume))
-    } else if word == b"cancel".as_slice() {
+    } else if is_same(word, b"cancel") {
         Some(Opening::About(Verb::Cancel))
-    } else if word == b"fetch".as_slice() {
+    } else if is_same(word, b"fetch") {
         Some(Opening::About(Verb::Fetch))
-    } else if word == b"list".as_slice() {
+    } else if is_same(word, b"list") {
         Some(Opening::List)
-    } else if word == b"run".as_slice() {
+    } else if is_same(word, b"run") {
         Some(Opening::Run)
     } else {
         None

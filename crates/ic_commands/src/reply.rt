@@ -1,8 +1,9 @@
 //! Printing the line that answers a command.
 
-ghost use Rattle.std.specs.Prelude.{◌≡◌, ◌++◌, IfOk, OnOk, codes};
+ghost use Rattle.std.specs.Prelude.{◌≡◌, ◌++◌, [], ◌∷◌, IfOk, OnOk, codes};
+ghost use Rattle.std.specs.Fmt.{decimal};
 ghost use Rattle.std.specs.List.{flat_map};
-ghost use Rattle.ic_commands.specs.ReplyText.{state_text, refusal_text, job_text, shown_text, listed_text, reply_text};
+ghost use Rattle.ic_commands.specs.ReplyText.{state_text, refusal_text, shown_text, listed_text, reply_text};
 
 use ic_jobs::{JobList, Refusal, Reply, ShownJob, State};
 use ic_rules::JobName;
@@ -12,34 +13,40 @@ use std::alloc::{AllocError, Global};
 /// How many bytes are reserved for a line of jobs: for the list of a full table with names of up to 16 bytes.
 const ROOM: usize = 1_024;
 
-/// The word of a state.
-fn state_word(state: State) -> &'static [u8]
-    ensures { result.now ≡ state_text state }
+/// The word of a state between spaces.
+fn shown_state(state: State) -> &'static [u8]
+    ensures { result.now ≡ 32 ∷ (state_text state ++ 32 ∷ []) }
 {
     match state {
-        State::Running => b"running",
-        State::Paused => b"paused",
-        State::Done => b"done",
-        State::Halted => b"halted",
-        State::Spent => b"spent",
+        State::Running => b" running ",
+        State::Paused => b" paused ",
+        State::Done => b" done ",
+        State::Halted => b" halted ",
+        State::Spent => b" spent ",
     }
 }
 
-/// Appends a job's name, state and rounds, with a byte between them.
-fn put_job(
-    out: &mut Vec<u8>,
-    between: u8,
-    name: JobName,
-    state: State,
-    rounds: u64,
-) -> Result<(), AllocError>
+/// The word of a state between colons.
+fn listed_state(state: State) -> &'static [u8]
+    ensures { result.now ≡ 58 ∷ (state_text state ++ 58 ∷ []) }
+{
+    match state {
+        State::Running => b":running:",
+        State::Paused => b":paused:",
+        State::Done => b":done:",
+        State::Halted => b":halted:",
+        State::Spent => b":spent:",
+    }
+}
+
+/// Appends a job's name, its state with a byte on each side, and its rounds.
+#[inline(always)]
+fn put_job(out: &mut Vec<u8>, name: JobName, state: &[u8], rounds: u64) -> Result<(), AllocError>
     ensures { OnOk result
-        (out.new.items ≡ out.old.items ++ job_text between name state rounds) }
+        (out.new.items ≡ out.old.items ++ (name ++ (state.now ++ decimal rounds))) }
 {
     out.extend_from_slice(name.as_bytes())?;
-    out.push(between)?;
-    out.extend_from_slice(state_word(state))?;
-    out.push(between)?;
+    out.extend_from_slice(state)?;
     put_decimal(rounds, out)
 }
 
@@ -48,7 +55,7 @@ fn print_shown(alloc: Global, job: &ShownJob) -> Result<Vec<u8>, AllocError>
     ensures { IfOk result (λ text. text.items ≡ shown_text job.now) }
 {
     let mut out = Vec::with_capacity(alloc, ROOM)?;
-    put_job(&mut out, b' ', job.name(), job.state(), job.rounds())?;
+    put_job(&mut out, job.name(), shown_state(job.state()), job.rounds())?;
     out.push(b' ')?;
     put_flat(alloc, job.rules().symbols(), job.config(), &mut out)?;
     Ok(out)
@@ -62,7 +69,7 @@ fn print_list(alloc: Global, jobs: &JobList) -> Result<Vec<u8>, AllocError>
     out.extend_from_slice(b"jobs")?;
     for (name, state, rounds) in jobs.as_slice() {
         out.push(b' ')?;
-        put_job(&mut out, b':', *name, *state, *rounds)?;
+        put_job(&mut out, *name, listed_state(*state), *rounds)?;
     }
     Ok(out)
 }

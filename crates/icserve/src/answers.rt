@@ -34,7 +34,8 @@ impl<'a, W> Answers<'a, W> {
         }
     }
 
-    /// Compares what comes next of an answer. The answer of a job with the name `bad` has a configuration, and so a `<`.
+    /// Compares what comes next of an answer. The answer of a job with the name `bad` has a
+    /// configuration, and so a `<`.
     fn compare(&mut self, bytes: &[u8]) {
         for byte in bytes {
             if self.count >= BAD.len() {
