@@ -43,7 +43,7 @@ loop-i-preserved c =
     record {
       within = omega (arith, there);
       left = c.loop-i.invariant.left ∙ next_ones ws vs i c.ne.result there c.if-left-right.false c.ne.ensures
-        ∙ ap (λ b. not b && pointwise word_eq (drop (i + 1) ws) (drop (i + 1) vs)) c.if-ne.false;
+          ∙ ap (λ b. not b && pointwise word_eq (drop (i + 1) ws) (drop (i + 1) vs)) c.if-ne.false;
     }
 
 pub returns : goal.returns
