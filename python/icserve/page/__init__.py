@@ -103,7 +103,9 @@ def trace(asked: Dict[str, Any]) -> Dict[str, Any]:
     if ran.status == 1 and not rows:
         ran.well()
     picture = limited(asked["text"], "trace", "--format", "svg", "--rounds", ROUNDS)
-    told = ran.err.strip() or (f"the page shows {ROUNDS:,} rounds" if len(rows) == ROUNDS else "")
+    told = ran.err.strip()
+    if told == "icserve: not done":
+        told = f"the page shows {ROUNDS:,} rounds"
     return {"rows": rows, "svg": picture.out, "limit": told}
 
 
