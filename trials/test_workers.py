@@ -2,15 +2,20 @@
 cut into parts, and what threads do. So many systems are drawn as the variable SYSTEMS says, of 400 if it isn't set."""
 
 import os
+import sys
 from pathlib import Path
 
 import draws
 import model
 import nets
 from known import ADD
-from program import IN_MEMORY, Trial, run
+from program import IN_MEMORY, PROGRAM, TOP, Trial, run
 from shim import noted, shimmed
 from test_in_place import DOUBLES, PILES, REACHED, figures_of, name_steps_of, object_of, stats_of
+
+sys.path.insert(0, str(TOP / "bench"))
+
+from systems import FIBONACCI, numeral  # noqa: E402
 
 SYSTEMS = int(os.environ.get("SYSTEMS") or 400)
 
@@ -230,6 +235,21 @@ class Threads(Trial):
             else:
                 self.equals(f"growth {number} {how}", "status and standard output", (4, b""), (ran.status, ran.out))
         self.equals("drawn growths", "whether some were refused between the first thread and the last one", True, among > 0)
+
+
+class Dropped(Trial):
+    rooms = IN_MEMORY
+    seconds = 60
+
+    def test_no_line_tells_of_threads_whose_work_was_dropped(self):
+        """Where memory is refused to several threads, one reduces the system anew, and no interactions are shared."""
+        text = f"{FIBONACCI} <r|F(r)={numeral(27)}>"
+        for kilobytes in (20_000, 30_000, 40_000):
+            shell = ["-c", f'ulimit -v {kilobytes}; exec "$0" reduce --quiet-answer --stats --workers 4', PROGRAM]
+            ran = run(*shell, program="/bin/sh", given=text)
+            told = ran.err + ran.after
+            if b", shared 0, " in told:
+                self.equals(ran.command, "whether a line tells of threads", False, b"icserve: thread 1: " in told)
 
 
 class Sizes(Trial):
