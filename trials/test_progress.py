@@ -177,8 +177,10 @@ class Progress(Trial):
 
     def test_a_trace_whose_picture_comes_at_its_end_shows_its_line(self):
         status, out, _, shown, took = self.shows(["trace", "--rounds", 2_000_000, "--format", "svg"], LOOP.text, out=False)
-        self.equals(self.command, "status and picture", (0, True), (status, out.endswith(b"</svg>\n")))
-        lines = self.lines_of(shown, took, OF_A_NET)
+        told = shown.rpartition(WIPED)[2]
+        came = status, out.endswith(b"</svg>\n"), told
+        self.equals(self.command, "status, picture and what is told", (0, True, b"icserve: not done\n"), came)
+        lines = self.lines_of(shown.removesuffix(told), took, OF_A_NET)
         self.equals(self.command, f"a line came, of few nodes: {lines}", True, bool(lines) and all(nodes < 10 for _, _, nodes in lines))
 
     def test_a_line_stays_in_one_row_of_a_terminal_of_40_columns(self):
