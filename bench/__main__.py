@@ -60,7 +60,8 @@ class Bench:
             told = subprocess.run([program, *row.words, "--stats"], input=row.given.encode(), capture_output=True).stderr
             return int(re.search(rb"interactions (\d+)", told)[1])
         rounds = row.words[2] if row.words[0] == "reduce" else "1"
-        told = subprocess.run([program, "trace", "--rounds", rounds], input=row.given.encode(), stdout=subprocess.PIPE).stdout
+        # A trace that is cut says so; no more is asked for.
+        told = subprocess.run([program, "trace", "--rounds", rounds], input=row.given.encode(), capture_output=True).stdout
         return sum(int(it.split()[1]) for it in told.splitlines()[1:])
 
 
