@@ -96,33 +96,35 @@ impl Makers {
     }
 }
 
-/// How many jobs run, how many words they have together, and what a round of each takes, in words.
+/// How many jobs run, how many words they have together, and what a round of their equations takes, in words.
 #[derive(Clone, Copy)]
 struct Load {
     running: usize,
     words: usize,
-    each: usize,
+    firing: usize,
 }
 
 impl Load {
     fn of(jobs: &[Job]) -> Load {
-        let (mut running, mut words, mut work) = (0_usize, 0_usize, 0_usize);
+        let (mut running, mut words, mut equations) = (0_usize, 0_usize, 0_usize);
         for job in jobs {
             if job.state() == State::Running {
                 let config = job.config();
-                let len = config.words().len();
                 running = running.saturating_add(1);
-                words = words.saturating_add(len);
-                work = work
-                    .saturating_add(len)
-                    .saturating_add(config.equations_len().saturating_mul(WORDS_EACH));
+                words = words.saturating_add(config.words().len());
+                equations = equations.saturating_add(config.equations_len());
             }
         }
         Load {
             running,
             words,
-            each: work / running.max(1),
+            firing: equations.saturating_mul(WORDS_EACH),
         }
+    }
+
+    /// What a round of a job takes, in words: the mean of all.
+    fn each(self) -> usize {
+        self.words.saturating_add(self.firing) / self.running.max(1)
     }
 
     /// How many rounds of each job are handed on at once, where so many are wanted of all: fewer of large nets, since those that
@@ -133,12 +135,15 @@ impl Load {
         each.min(most as u64).max(1) as usize
     }
 
-    /// Whether several threads gain by a lap, where so many rounds are handed on at once, and so many are wanted of all.
+    /// Whether several threads gain by a lap, where so many rounds are handed on at once, and so many are wanted of all. Where
+    /// rounds copy more than they fire, they don't: a lap holds more nets at once than are near a processor.
     fn is_worth_it(self, rounds: usize, wanted: u64) -> bool {
+        let each = self.each();
         self.running > 1
-            && self.each >= ENOUGH_EACH
-            && self.each.saturating_mul(rounds) >= ENOUGH_AT_ONCE
-            && (self.each as u64).saturating_mul(wanted) >= ENOUGH
+            && self.firing >= self.words
+            && each >= ENOUGH_EACH
+            && each.saturating_mul(rounds) >= ENOUGH_AT_ONCE
+            && (each as u64).saturating_mul(wanted) >= ENOUGH
     }
 }
 

@@ -19,6 +19,9 @@ pub const FORMAT: u64 = 0x4943_4b45_5054_3031;
 /// How many numbers stand before the lists of a state, after what is said of rounds.
 pub(crate) const HEAD: u64 = 7;
 
+/// How many numbers stand before the lists at most, with what is said of rounds.
+const FRONT: usize = 9;
+
 /// The byte form of a state, if each of its words has a number. Takes linear time.
 pub fn encode(alloc: Global, state: &State) -> Result<Vec<u8>, StateFault>
     ensures bytes { IfOk result (λ bytes. bytes.items ≡ state_bytes (kept_by state.now)) }
@@ -36,13 +39,20 @@ pub fn encode(alloc: Global, state: &State) -> Result<Vec<u8>, StateFault>
     ];
     numbers_fit(&head);
     numbers_fit(&state.by_rule);
-    let mut out = Vec::new(alloc);
+    let mut out = Vec::with_capacity(alloc, room_of(state))?;
     put_rounds(state.rounds, &mut out)?;
     put_numbers(&head, &mut out)?;
     put_numbers(&state.by_rule, &mut out)?;
-    put_words(&state.words, &mut out)?;
+    put_words(alloc, &state.words, &mut out)?;
     out.extend_from_slice(&state.text)?;
     Ok(out)
+}
+
+/// For how many bytes room is made: no fewer than a state has, unless these are more than there may be.
+fn room_of(state: &State) -> usize {
+    let numbers = state.by_rule.len().saturating_add(state.words.len());
+    let bytes = numbers.saturating_add(FRONT).saturating_mul(8);
+    bytes.saturating_add(state.text.len())
 }
 
 fn ended_number(ended: bool) -> u64

@@ -1,12 +1,12 @@
 //! Words as numbers, and back.
 
-ghost use Rattle.std.specs.Prelude.{◌≡◌, ◌<◌, ◌*◌, ◌++◌, IfOk, IfErr, IfSome, IsNone, OnOk, length};
+ghost use Rattle.std.specs.Prelude.{◌≡◌, ◌<◌, ◌*◌, ◌++◌, IfOk, IfErr, IfSome, IsNone, OnOk, length, map};
 ghost use Rattle.std.specs.List.{flat_map, AllByRecursion};
 ghost use Rattle.ic_state.specs.Words.{word_bytes, word_number, IsKeptWord};
 ghost use Rattle.ic_state.specs.declared.fault.StateFault.TheVariants.{NotAState};
 
 use crate::fault::StateFault;
-use crate::fields::{number_at, put_number};
+use crate::fields::number_at;
 use ic_flat::Word;
 use std::alloc::Global;
 
@@ -42,6 +42,15 @@ fn number_of(word: Word) -> Option<u64>
     }
 }
 
+/// The number of a word in eight bytes, if it has one.
+fn bytes_of(word: Word) -> Option<[u8; 8]>
+    ensures some { IfSome result (λ bytes. (bytes ≡ word_bytes word) × IsKeptWord word) }
+    ensures none { IsNone result → ¬ IsKeptWord word }
+{
+    let number = number_of(word)?;
+    Some(number.to_be_bytes())
+}
+
 /// So many words, and the bytes after them.
 pub(crate) fn words_at(
     alloc: Global,
@@ -66,15 +75,53 @@ pub(crate) fn words_at(
     Ok((words, rest))
 }
 
+/// How many words are spelled at a time.
+const GROUP: usize = 512;
+
 /// Appends words in order, if each has a number.
-pub(crate) fn put_words(words: &[Word], out: &mut Vec<u8>) -> Result<(), StateFault>
+pub(crate) fn put_words(alloc: Global, words: &[Word], out: &mut Vec<u8>) -> Result<(), StateFault>
     ensures appended { OnOk result (out.new.items ≡ out.old.items ++ flat_map word_bytes words.now) }
     ensures kept { OnOk result (AllByRecursion IsKeptWord words.now) }
     ensures refused { IfErr result (λ fault. fault ≡ NotAState → ¬ AllByRecursion IsKeptWord words.now) }
 {
+    let mut numbers = Vec::new(alloc);
+    let mut place = 0;
+    while place < words.len() {
+        let end = words.len().min(place + GROUP);
+        put_group(&words[place..end], &mut numbers, out)?;
+        place = end;
+    }
+    Ok(())
+}
+
+/// Appends words in order by way of a list of their numbers, if each has one.
+fn put_group(
+    words: &[Word],
+    numbers: &mut Vec<[u8; 8]>,
+    out: &mut Vec<u8>,
+) -> Result<(), StateFault>
+    ensures appended { OnOk result (out.new.items ≡ out.old.items ++ flat_map word_bytes words.now) }
+    ensures kept { OnOk result (AllByRecursion IsKeptWord words.now) }
+    ensures refused { IfErr result (λ fault. fault ≡ NotAState → ¬ AllByRecursion IsKeptWord words.now) }
+{
+    number_all(words, numbers)?;
+    out.extend_from_slice(numbers.as_flattened())?;
+    Ok(())
+}
+
+/// Makes this the list of the numbers of words in order, in eight bytes each, if each has one.
+fn number_all(words: &[Word], numbers: &mut Vec<[u8; 8]>) -> Result<(), StateFault>
+    ensures numbers { OnOk result (numbers.new.items ≡ map word_bytes words.now) }
+    ensures kept { OnOk result (AllByRecursion IsKeptWord words.now) }
+    ensures refused { IfErr result (λ fault. fault ≡ NotAState → ¬ AllByRecursion IsKeptWord words.now) }
+{
+    numbers.clear();
+    numbers.reserve(words.len())?;
     for word in words {
-        let number = number_of(*word).ok_or(StateFault::NotAState)?;
-        put_number(number, out)?;
+        let Some(bytes) = bytes_of(*word) else {
+            return Err(StateFault::NotAState);
+        };
+        numbers.push_reserved(bytes);
     }
     Ok(())
 }
