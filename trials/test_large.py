@@ -23,6 +23,12 @@ case $2 in --keep) printf x >"$3" && exec sleep 60 ;; esac
 exec {program} "$@"
 """
 
+# Stands for icserve: it begins a second and a half late.
+LATE = """#!/bin/sh
+sleep 1.5
+exec {program} "$@"
+"""
+
 # Stands for icserve: a text ends as soon as what is kept of it is looked at.
 ENDS = """#!/bin/sh
 ICSERVE={program} {large} texts/one.ic
@@ -93,6 +99,35 @@ class Large(Texts):
         self.equals(ran.command, f"status; it said {ran.err}", 5, ran.status)
         self.has("one.ic", "one.ic.lock")
         self.ended(self.script("large", "--time", "60", "texts/one.ic"))
+
+    def test_all_that_a_start_does_ends_once_its_time_is_over(self):
+        """Each call of the program begins a second and a half late: the second one has what the first has left of the time."""
+        self.write({"one": LOOP})
+        self.stands_for("icserve", LATE.format(program=PROGRAM))
+        began = time.monotonic()
+        ran = self.script("large", "--time", "3", "texts/one.ic", program_of_scripts=self.room / "icserve")
+        took = time.monotonic() - began
+        self.equals(ran.command, f"status; it said {ran.err}", 5, ran.status)
+        self.equals(ran.command, f"whether it took less than 4.4 seconds: {took}", True, took < 4.4)
+        self.has("one.ic", "one.ic.keep", "one.ic.keep.2", "one.ic.lock")
+
+    def test_a_text_that_has_lost_a_file_of_what_is_kept_is_not_begun_anew(self):
+        """It is told, and goes on once the file is back."""
+        texts = {"one": f"{FIBONACCI} <r|F(r)={numeral(9)}>"}
+        self.write(texts)
+        ran = self.script("large", "texts/one.ic", "--steps", "100")
+        self.equals(ran.command, f"status; it said {ran.err}", 5, ran.status)
+        for lost in ("keep", "keep.2"):
+            there, away = self.room / f"texts/one.ic.{lost}", self.room / "away"
+            there.rename(away)
+            ran = self.script("table", "texts")
+            self.equals(ran.command, f"without {lost}: whether it is told as waiting; it said {ran.err}", False, b"\twaiting\t" in ran.out)
+            ran = self.script("large", "texts/one.ic")
+            self.equals(ran.command, f"without {lost}: status; it said {ran.err}", 3, ran.status)
+            self.equals(ran.command, f"without {lost}: whether the way is told; it said {ran.err}", True, b"--from-one-file" in ran.err)
+            away.rename(there)
+        self.ended(self.script("large", "texts/one.ic"))
+        self.end_as_unbroken(texts)
 
     def test_a_text_that_ends_while_it_is_looked_at_is_told_as_done(self):
         self.write({"one": f"{FIBONACCI} <r|F(r)={numeral(5)}>"})

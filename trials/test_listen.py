@@ -21,6 +21,7 @@ from hosts import Hosts
 from known import ADD, LOOP, TWO
 from program import IN_MEMORY, PATIENCE, PROGRAM, TOP, Trial, heeds_signals, run, shown
 from test_drawn_serving import OTHERS, session
+from test_standing import loops
 
 LONGEST = 262_144
 
@@ -416,6 +417,32 @@ class Rounds(Listens):
                 took.append(time.monotonic() - began)
             took.sort()
             self.equals("fetch", f"whether half are answered within 20 ms: {took[100]:.4f}", True, took[100] < 0.020)
+
+    def test_a_line_is_answered_soon_after_a_large_job_has_come(self):
+        """Laps of a small job have grown by then."""
+        with self.listening("--rounds") as listening, listening.client() as client:
+            self.answers(client, f"submit small {LOOP.text}", "accepted")
+            took = []
+            for _ in range(5):
+                time.sleep(0.5)
+                self.answers(client, f"submit large {loops(1_000)}", "accepted")
+                time.sleep(0.01)
+                began = time.monotonic()
+                client.ask("list")
+                took.append(time.monotonic() - began)
+                self.answers(client, "cancel large", "ok")
+            self.equals("list", f"whether it is answered within 0.1 s, once of five times: {took}", True, min(took) < 0.1)
+
+    def test_lines_of_another_client_come_between_runs(self):
+        with self.listening() as listening, listening.client() as one, listening.client() as other:
+            for number in range(8):
+                self.answers(one, f"submit loop{number} {loops(100)}", "accepted")
+            one.send(*["run 1000"] * 20)
+            made = self.rounds(other)
+            self.equals("list after 20 times run 1000", f"whether most are still to be made: {made}", True, max(made) <= 5 * 1000 // 8)
+            for _ in range(20):
+                self.equals("run 1000", "its answer", "ran 1000", one.answer())
+            self.equals("list", "the rounds then", [2500] * 8, self.rounds(other))
 
     def test_a_new_serving_begins_before_the_last_line_that_one_takes(self):
         env = {"ICSERVE_LISTEN_LINES": "300"}

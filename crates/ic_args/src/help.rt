@@ -89,8 +89,9 @@ A text                                served          wide
   number of a name                    4294967295      4294967295
 
 A name is a node, and an agent is a node and those of its arguments. Texts of reduce and trace are
-wide, or served with --limits served. Those of jobs and of other commands are served, and their
-nets have at most 8192 nodes after each round. A rich text has at most 8589934592 bytes.
+wide, or served with --limits served, and those of draw --rounds are wide. Those of jobs and of
+other commands are served, and their nets have at most 8192 nodes after each round. A rich text has
+at most 8589934592 bytes.
 
 A disk of jobs
   jobs                                32
@@ -145,6 +146,7 @@ What --nodes bounds are the names and agents that the net has at a time; a name 
 are counted often enough that it is passed by a sixteenth and one interaction at most, unless the
 text itself has more.
 If two agents are left that have no rule, the first pair is told: icserve: stuck A><B
+If an equation is left of a name and a term that has it, so is that: icserve: circle at A
 A rule that --stats doesn't name never fired; an agent inside another term meets nothing.
 
 Exit statuses:
@@ -169,7 +171,8 @@ const TRACE: &str = "\
 The format tsv is a table with tabs, svg a picture, and json has objects of JSON, one a line.
 A round fires all active pairs at once, and then removes names that only join two terms.
 Where a step is still possible after the last round, standard error says icserve: not done, and
-figures and a picture say partial. icserve reduce tells which pair is stuck.
+figures and a picture say partial. Where none is, it says which pair is stuck, and at which symbol
+a circle is left.
 Of more than 640 rounds a bar of the picture is the sum of several. A row is printed as its round
 is over. --stats tells what all did: work, span, and how many pairs could fire at once.
 

@@ -124,7 +124,7 @@ const WORDS: [Entry; 14] = [
     Entry {
         word: Word::Attend,
         name: "attend",
-        about: "Gives the commands of scripts to the disk in the file F, one client to a script",
+        about: "Tries legal histories of the disk in the file F, with a script for each client",
         arguments: ATTEND,
     },
     Entry {

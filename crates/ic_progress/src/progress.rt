@@ -94,15 +94,26 @@ impl<'a> Line<'a> {
         }
     }
 
-    /// Wipes the line, where there is one. Work that comes after it begins after a pause.
-    fn wipe(&self) {
+    /// Wipes the line, where there is one. Work that comes after it begins after a pause, or goes on.
+    fn wipe(&self, goes_on: bool) {
         let Some(mut shown) = self.shown.try_lock() else {
             return;
         };
-        if let Some(Shown { is_line: true, .. }) = *shown {
+        let Some(last) = *shown else {
+            return;
+        };
+        if last.is_line {
             let _ = self.rt.stderr().write_all(WIPED);
         }
-        *shown = None;
+        *shown = if goes_on {
+            Some(Shown {
+                at: last.at,
+                count: last.count,
+                is_line: false,
+            })
+        } else {
+            None
+        };
     }
 }
 
@@ -133,7 +144,7 @@ impl<'a> Progress<'a> {
 
     /// Wipes the line, where there is one.
     pub fn wipe(&self) {
-        self.line.wipe();
+        self.line.wipe(false);
     }
 }
 
@@ -196,7 +207,7 @@ impl<'a> Watching<'a> {
 
     /// Wipes the line, where there is one.
     pub fn wipe(&self) {
-        self.line.wipe();
+        self.line.wipe(false);
     }
 }
 
@@ -237,6 +248,8 @@ impl Tells for Seen {
 #[derive(Drop)]
 pub struct WipedFirst<'a, W> {
     line: &'a Line<'a>,
+    /// Whether bytes are written while work goes on.
+    goes_on: bool,
     output: W,
 }
 
@@ -246,6 +259,7 @@ impl<'a, W> WipedFirst<'a, W> {
     {
         WipedFirst {
             line: &progress.line,
+            goes_on: false,
             output,
         }
     }
@@ -256,6 +270,7 @@ impl<'a, W> WipedFirst<'a, W> {
     {
         WipedFirst {
             line: &watching.line,
+            goes_on: true,
             output,
         }
     }
@@ -266,7 +281,7 @@ impl<W: Write> Write for WipedFirst<'_, W> {
     ghost contents = { λ wiped. W.contents (output_of wiped) };
 
     fn write(&mut self, bytes: &[u8]) -> io::Result<usize> {
-        self.line.wipe();
+        self.line.wipe(self.goes_on);
         self.output.write(bytes)
     }
 

@@ -7,7 +7,7 @@ use ic_by_rounds::{Format, Summary, Traced, summary_line, summary_object, trace_
 use ic_causes::{NotedOutput, Notes};
 use ic_exits::{Failure, circle_line, reduce_ending, stuck_line};
 use ic_expand::{Opened, Shape, Wording, write_told};
-use ic_in_place::{Asked, End, RoundBounds, Rounded, reduce_by_rounds_stream};
+use ic_in_place::{Asked, End, Outcome, RoundBounds, Rounded, reduce_by_rounds_stream};
 use ic_nets::draw_stream;
 use ic_progress::{Watching, WipedFirst};
 use ic_streams::StreamFault;
@@ -16,14 +16,14 @@ use std::alloc::Global;
 use std::io::{self, Read, Write};
 
 /// Tells on standard error which pair is stuck.
-pub(crate) fn tell_stuck(rt: &HostRuntime, pair: &[u8]) {
+fn tell_stuck(rt: &HostRuntime, pair: &[u8]) {
     if let Ok(line) = stuck_line(rt.alloc(), pair) {
         let _ = rt.stderr().write_all(&line);
     }
 }
 
 /// Tells on standard error at which symbol a circle is closed.
-pub(crate) fn tell_circle(rt: &HostRuntime, symbol: &[u8]) {
+fn tell_circle(rt: &HostRuntime, symbol: &[u8]) {
     if let Ok(line) = circle_line(rt.alloc(), symbol) {
         let _ = rt.stderr().write_all(&line);
     }
@@ -86,10 +86,13 @@ fn tell_summary(rt: &HostRuntime, summary: Summary, format: Format) {
 }
 
 /// How the program ends. A trace of as many rounds as it may tell of is no failure, but standard error is told where a step is
-/// still possible.
+/// still possible, and what is stuck or goes in a circle where none is.
 fn trace_ending(rt: &HostRuntime, traced: &Traced, nodes: u64) -> Result<(), Failure> {
     match traced.reached.outcome.end {
-        End::Quiet => Ok(()),
+        End::Quiet => {
+            tell_left(rt, &traced.reached.outcome);
+            Ok(())
+        }
         End::Steps => {
             tell_not_done(rt);
             Ok(())
@@ -99,6 +102,16 @@ fn trace_ending(rt: &HostRuntime, traced: &Traced, nodes: u64) -> Result<(), Fai
             reached_of(&traced.reached.outcome, Some(traced.reached.rounds)),
             nodes,
         ),
+    }
+}
+
+/// Tells on standard error the pair that is stuck, and the circle, where there is one.
+pub(crate) fn tell_left(rt: &HostRuntime, outcome: &Outcome) {
+    if let Some(pair) = &outcome.stuck {
+        tell_stuck(rt, pair);
+    }
+    if let Some(symbol) = &outcome.circle {
+        tell_circle(rt, symbol);
     }
 }
 

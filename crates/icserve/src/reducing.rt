@@ -2,7 +2,7 @@
 
 ghost use Rattle.std.specs.Prelude.{◌≡◌, ◌<◌, ◌≤◌, IfNone, IfSome, max, min};
 
-use crate::looking::{tell_circle, tell_stuck};
+use crate::looking::tell_left;
 use crate::profiling::Profile;
 use crate::several::Among;
 use ic_args::FiguresFormat;
@@ -288,12 +288,7 @@ pub(crate) fn tell_end(
         let threads = wanted.policy.workers;
         tell_figures(rt, outcome, rounds, threads, shares, time, format);
     }
-    if let Some(pair) = &outcome.stuck {
-        tell_stuck(rt, pair);
-    }
-    if let Some(symbol) = &outcome.circle {
-        tell_circle(rt, symbol);
-    }
+    tell_left(rt, outcome);
     if is_idle(outcome) && rt.stderr().is_terminal() {
         tell_idle(rt);
     }
