@@ -124,7 +124,7 @@ class Large(Texts):
             self.equals(ran.command, f"without {lost}: whether it is told as waiting; it said {ran.err}", False, b"\twaiting\t" in ran.out)
             ran = self.script("large", "texts/one.ic")
             self.equals(ran.command, f"without {lost}: status; it said {ran.err}", 3, ran.status)
-            self.equals(ran.command, f"without {lost}: whether the way is told; it said {ran.err}", True, b"--from-one-file" in ran.err)
+            self.equals(ran.command, f"without {lost}: whether the way is told; it said {ran.after}", True, b"--from-one-file" in ran.after)
             away.rename(there)
         self.ended(self.script("large", "texts/one.ic"))
         self.end_as_unbroken(texts)
