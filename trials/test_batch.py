@@ -4,11 +4,13 @@ import re
 import signal
 import subprocess
 import time
+from pathlib import Path
 
 from checked import checked
 from known import ADD, LOOP, STILL, TWO, WAVES, WIDE, Job, fetched
 from program import PATIENCE, PROGRAM, Server, Trial, as_lines, heeds_signals, run, said_of
 from shim import noted, recording
+from test_standing import loops
 
 SYSTEMS = (TWO, STILL, LOOP, WIDE, WAVES)
 
@@ -203,6 +205,22 @@ class Batch(Trial):
             started.kill()
         self.equals(said_of(command), f"whether each of three jobs has rounds, as {found}", True, len(found) == 3 and found[0] >= 5)
         self.equals(said_of(command), f"whether they were made in turn, as {found}", True, found[2] <= found[1] <= found[0] <= found[2] + 1)
+
+    def test_as_many_threads_make_rounds_as_are_asked_for_and_the_answers_are_the_same(self):
+        """16 jobs of 300 pairs that never end, by 1, 2 and 4 threads, the first of which is the program's own."""
+        told, pipes = [], {"stdin": subprocess.DEVNULL, "stdout": subprocess.PIPE}
+        for workers in (1, 2, 4):
+            self.path = self.room / f"{workers}.disk"
+            command = self.words([f"submit j{it} {loops(300)}" for it in range(16)], "--rounds", 400, "--workers", workers)
+            with subprocess.Popen([PROGRAM, *map(str, command)], **pipes) as started:
+                tasks, threads = Path(f"/proc/{started.pid}/task"), 0
+                while started.poll() is None:
+                    threads = max(threads, len(list(tasks.iterdir())))
+                    time.sleep(0.01)
+                out = started.stdout.read()
+            self.equals(said_of(command), "status and threads", (0, workers), (started.returncode, threads))
+            told.append((out, self.path.read_bytes()))
+        self.equals("batch", "whether answers and disks are the same", [True, True], [it == told[0] for it in told[1:]])
 
     def test_all_submits_are_kept_by_one_keep(self):
         log, syncs = self.room / "calls", []

@@ -127,9 +127,9 @@ class Bounds(Trial):
         self.below("bytes of a job that is shown 3,000 times", 200 * MEGABYTE, memory)
 
     def test_a_server_of_jobs_that_grow_takes_little_memory(self):
-        """Each round of a job makes 32 nodes more, and several threads make rounds ahead."""
-        text = "{A(n,B(x))><B(A(S(S(S(S(n)))),x))} <|" + ",".join(f"A(Z,x{it})=B(x{it})" for it in range(1, 9)) + ">"
-        lines = "".join(f"submit j{it} {text}\n" for it in range(32)) + "run 1000\n" * 7
+        """Each round of a job makes 300 nodes more, and several threads make rounds ahead, as each fires as much as it copies."""
+        text = "{A(n,B(x))><B(A(S(n),x))} <|" + ",".join(f"A(Z,x{it})=B(x{it})" for it in range(1, 301)) + ">"
+        lines = "".join(f"submit j{it} {text}\n" for it in range(32)) + "run 480\n"
         memory, _ = self.taken("serve", "--disk", self.disk(), "--workers", 4, given=lines)
         self.below("bytes of 32 jobs that grow to 7,000 nodes", 60 * MEGABYTE, memory)
 
