@@ -120,7 +120,7 @@ def main():
     parser.add_argument("--times", type=int, default=7, help="runs of each program (7 if not said), after one that isn't counted")
     parser.add_argument("--size", type=float, default=1, help="takes each number of a system times this (1 if not said)")
     parser.add_argument("--least", action="store_true", help="tells the least processor seconds of the runs, of all threads, in place of the median of seconds: for a machine that isn't idle")
-    parser.add_argument("--others", action="store_true", help="takes the other rows: large texts, and nets by 1, 2 and 4 threads")
+    parser.add_argument("--others", action="store_true", help="takes the other rows: large texts, nets by 1, 2 and 4 threads, and rounds in place")
     parser.add_argument("--write", metavar="FOLDER", help="writes the texts and lines of the rows into a folder, and times nothing")
     parser.add_argument("--only", default="", metavar="WORD", help="takes only rows that have this word")
     parser.add_argument("--instructions", action="store_true", help="has valgrind count instructions, which takes long")

@@ -158,6 +158,22 @@ def of_threads(size):
             yield Row(f"by {workers} threads: {what}", ["reduce", "--workers", workers], given)
 
 
+def of_rounds(size):
+    """What is reduced by rounds, traced, and reduced with --span, beside any order by one thread."""
+    kinds = r"Fib|commute|\d times \d|of 3 and|sort of [45]\d\d|walks through"
+    nets = {it.what.partition(": ")[2]: it.given for it in of_nets(size) if re.search(kinds, it.what)}
+    most = str(10**9)
+    for what, given in nets.items():
+        yield Row(f"in any order: {what}", ["reduce", "--workers", "1"], given)
+        yield Row(f"by rounds: {what}", ["reduce", "--rounds", most], given)
+        yield Row(f"traced: {what}", ["trace", "--rounds", most], given)
+        for workers in "124":
+            yield Row(f"with --span, by {workers} threads: {what}", ["reduce", "--span", "--quiet-answer", "--workers", workers], given)
+    idle = f"{LOOP} <{numeral(size(1_000_000))}|A(x)=B(x)>"
+    for rounds in (1, size(3_000_000)):
+        yield Row(f"by rounds: {rounds:,} rounds of a pair beside {size(1_000_000):,} idle nodes", ["reduce", "--quiet-answer", "--rounds", str(rounds)], idle)
+
+
 def of_lines(size):
     seldom = ["--every", "1000000", "--workers"]
     runs, rounds, pairs, nodes, asked = size(300), size(1_000), size(1_000), size(8_192), size(20_000)
@@ -212,4 +228,4 @@ def rows(part, others=False):
     def size(whole):
         return max(1, round(whole * part))
 
-    return itertools.chain(of_large_texts(size), of_threads(size)) if others else [*of_texts(size), *of_nets(size), *of_lines(size)]
+    return itertools.chain(of_large_texts(size), of_threads(size), of_rounds(size)) if others else [*of_texts(size), *of_nets(size), *of_lines(size)]

@@ -208,18 +208,17 @@ class Batch(Trial):
 
     def test_as_many_threads_make_rounds_as_are_asked_for_and_the_answers_are_the_same(self):
         """16 jobs of 300 pairs that never end, by 1, 2 and 4 threads, the first of which is the program's own."""
-        told, pipes = [], {"stdin": subprocess.DEVNULL, "stdout": subprocess.PIPE}
+        told, answers = [], self.room / "answers"
         for workers in (1, 2, 4):
             self.path = self.room / f"{workers}.disk"
             command = self.words([f"submit j{it} {loops(300)}" for it in range(16)], "--rounds", 400, "--workers", workers)
-            with subprocess.Popen([PROGRAM, *map(str, command)], **pipes) as started:
+            with answers.open("wb") as out, subprocess.Popen([PROGRAM, *map(str, command)], stdin=subprocess.DEVNULL, stdout=out) as started:
                 tasks, threads = Path(f"/proc/{started.pid}/task"), 0
                 while started.poll() is None:
                     threads = max(threads, len(list(tasks.iterdir())))
                     time.sleep(0.01)
-                out = started.stdout.read()
             self.equals(said_of(command), "status and threads", (0, workers), (started.returncode, threads))
-            told.append((out, self.path.read_bytes()))
+            told.append((answers.read_bytes(), self.path.read_bytes()))
         self.equals("batch", "whether answers and disks are the same", [True, True], [it == told[0] for it in told[1:]])
 
     def test_all_submits_are_kept_by_one_keep(self):

@@ -43,9 +43,8 @@ def summed(pairs):
     return {"span": len(pairs), "average": sum(pairs) * 10 // max(1, len(pairs)) / 10, "greatest": max(pairs, default=0)}
 
 
-class Profiles(Trial):
+class OfProfiles(Trial):
     rooms = IN_MEMORY
-    seconds = 60
 
     def profile(self, text, *words):
         """What stands in the file after a reduction, and the run with its figures."""
@@ -59,7 +58,10 @@ class Profiles(Trial):
 
     def are_rounds(self, text, workers=WORKERS):
         """A text whose reduction ends has one profile by any number of threads, which is that of its rounds."""
-        pairs = traced(text)
+        return self.has_profile(text, traced(text), workers)
+
+    def has_profile(self, text, pairs, workers):
+        """The same, where the rounds fire so many pairs each."""
         for count in workers:
             ran, told = self.profile(text, "--workers", count)
             self.equals(ran.command, "status", 0, ran.status)
@@ -68,6 +70,10 @@ class Profiles(Trial):
             self.equals(ran.command, "its figures", {**summed(pairs), "partial": False}, {it: figures[it] for it in ("span", "average", "greatest", "partial")})
             self.equals(ran.command, "interactions", sum(pairs), figures["interactions"])
         return sum(pairs)
+
+
+class Profiles(OfProfiles):
+    seconds = 60
 
     def test_drawn_systems(self):
         drawn = self.draws()

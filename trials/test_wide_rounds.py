@@ -113,9 +113,14 @@ class BesideWords(Trial):
                 wanted = 0 if model.is_quiet(rules, reached) else 5, sum(it[1] for it in rows[:count])
                 self.equals(ran.command, "status and interactions", wanted, (ran.status, stats_of(ran.err)[0]))
                 self.equals(ran.command, "the net", nets.form_in(rules, *reached[:2]), nets.form_of(rules, ran.out))
+            if state == "done":
+                self.has_ended(text, [it[1] for it in rows])
             seen.update([state, "systems"])
             seen["rounds"] += len(rows)
         return seen
+
+    def has_ended(self, text, pairs):
+        """Is told of a text whose rounds end, and of the pairs of each."""
 
     def test_rows_and_nets_are_those_of_words(self):
         drawn = self.draws()

@@ -1,10 +1,11 @@
 """20,000 drawn systems whose rounds in place have the rows and nets of rounds of words, and 300 nets of 100,000 to 10,000,000 interactions
-whose rounds add up to those of any order, and are those that `reduce --profile` tells by one thread and by four. They take some ten
-minutes of one processor: python3 trials wide_rounds_long."""
+whose rounds add up to those of any order. Where rounds end they are those that `reduce --span --profile` tells by one thread and by
+four. They take some twenty minutes of one processor: python3 trials wide_rounds_long."""
 
 import draws
-from program import IN_MEMORY, Trial, run
+from program import run
 from test_in_place import POWER, numeral, stats_of
+from test_span import OfProfiles
 from test_wide_rounds import ADD_AND_COPY, BesideWords, FIBONACCI, SORT, rows_of, summed
 
 # How many systems each of the four trials draws.
@@ -21,8 +22,13 @@ ACKERMANN = "{Ack(S(x),x)><Z;Ack(r,Again(r,m))><S(m);Again(r,Ack(r,S(Z)))><Z;Aga
 ACKERMANN += ";Dup(Z,Z)><Z;Dup(S(x),S(y))><S(Dup(x,y))}"
 
 
-class ManyBesideWords(BesideWords):
-    seconds = 200
+class ManyBesideWords(BesideWords, OfProfiles):
+    seconds = 400
+
+    def has_ended(self, text, pairs):
+        while pairs and not pairs[-1]:
+            pairs.pop()
+        self.has_profile(text, pairs, (1, 4))
 
     def beside(self, size, most):
         """Systems of a size, each for at most so many rounds. Some end, some go on, and some need more nodes than a job has."""
@@ -98,8 +104,7 @@ def functions(drawn):
     return f"{rules} <{face}|{body}>"
 
 
-class ManyLargeNets(Trial):
-    rooms = IN_MEMORY
+class ManyLargeNets(OfProfiles):
     seconds = 100
 
     def each_adds_up(self, kind):
@@ -128,15 +133,7 @@ class ManyLargeNets(Trial):
         rest = run("reduce", "--rounds", span, "--stats", given=text[: text.index("}") + 1].encode() + cut.out)
         self.equals(rest.command, "status and interactions that were left", (0, made - sum(pairs[:count])), (rest.status, stats_of(rest.err)[0]))
         self.agrees(rest.command, "the net", in_any_order.out, rest.out)
-        self.has_profile(text, pairs)
-
-    def has_profile(self, text, pairs):
-        """Fails unless a reduction in any order, by one thread and by four, tells these pairs of its rounds."""
-        path = self.room / "profile.tsv"
-        for workers in (1, 4):
-            ran = run("reduce", "--quiet-answer", "--workers", workers, "--profile", path, given=text)
-            told = [int(it.split("\t")[1]) for it in path.read_text().splitlines()[1:]]
-            self.equals(ran.command, "status and pairs of each round", (0, pairs), (ran.status, told))
+        self.has_profile(text, pairs, (1, 4))
 
     def test_sums_and_products(self):
         self.each_adds_up(sums)
