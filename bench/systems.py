@@ -168,7 +168,7 @@ def of_rounds(size):
         yield Row(f"by rounds: {what}", ["reduce", "--rounds", most], given)
         yield Row(f"traced: {what}", ["trace", "--rounds", most], given)
         for workers in "124":
-            yield Row(f"span by {workers} threads: {what}", ["reduce", "--span", "--quiet-answer", "--workers", workers], given)
+            yield Row(f"span by {workers} threads: {what}", ["reduce", "--span", "--workers", workers], given)
     idle = f"{LOOP} <{numeral(size(1_000_000))}|A(x)=B(x)>"
     for rounds in (1, size(3_000_000)):
         yield Row(f"by rounds: {rounds:,} rounds of a pair beside {size(1_000_000):,} idle nodes", ["reduce", "--quiet-answer", "--rounds", str(rounds)], idle)
