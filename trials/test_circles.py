@@ -32,6 +32,18 @@ class Circles(Trial):
             for name in ("kept", "kept.2"):
                 (self.room / name).unlink()
 
+    def test_a_trace_tells_it_at_its_end(self):
+        for text, told in (
+            (ONE, b"icserve: circle at Add\n"),
+            ("{A(x)><B(x)} <|A(x)=B(D(x))>", b"icserve: circle at D\n"),
+            ("{} <r|x=Add(r,x),C=D>", b"icserve: stuck C><D\nicserve: circle at Add\n"),
+            ("{A(B(x))><B(A(x))} <|x=C(x),A(y)=B(y)>", b"icserve: not done\n"),
+            ("{} <r|r=C(D)>", b""),
+        ):
+            for words in ([], ["--format", "json"], ["--format", "svg"]):
+                ran = run("trace", "--rounds", 9, *words, given=text)
+                self.equals(ran.command, "status and what is told", (0, told), (ran.status, ran.err))
+
     def test_a_stuck_pair_is_told_before_it(self):
         for words in ([], ["--rounds", 9]):
             ran = run("reduce", *words, given="{} <r|x=Add(r,x),C=D>")

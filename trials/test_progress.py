@@ -183,6 +183,15 @@ class Progress(Trial):
         lines = self.lines_of(shown.removesuffix(told), took, OF_A_NET)
         self.equals(self.command, f"a line came, of few nodes: {lines}", True, bool(lines) and all(nodes < 10 for _, _, nodes in lines))
 
+    def test_a_trace_of_quick_rounds_whose_rows_go_elsewhere_shows_its_line(self):
+        for form in ("tsv", "json"):
+            status, out, _, shown, took = self.shows(["trace", "--rounds", 2_000_000, "--format", form], LOOP.text, out=False)
+            told = shown.rpartition(WIPED)[2]
+            came = status, len(out.splitlines()), told
+            self.equals(self.command, "status, lines and what is told", (0, 2_000_000 + (form == "tsv"), b"icserve: not done\n"), came)
+            lines = [it.groups() for it in OF_A_NET.finditer(shown)]
+            self.equals(self.command, f"a line came more than once: {lines[:3]}", True, len(lines) > 1)
+
     def test_a_line_stays_in_one_row_of_a_terminal_of_40_columns(self):
         for words, given in ((["reduce", "--steps", 10_000_000], LOOP.text), (["serve", "--disk", self.jobs], LONG)):
             _, _, _, shown, _ = self.shows(words, given, out=False, columns=40)
