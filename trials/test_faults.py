@@ -327,11 +327,12 @@ class Faults(Stops):
         self.equals("a lap by 4 workers", "threads", 3, calls)
 
     def test_jobs_with_enough_work_are_made_by_as_many_threads_as_said(self):
-        """Where a run asks for less, of one job, or for one round, the thread that serves makes the rounds. The shim counts the threads."""
+        """Where a run asks for less, of one job, for one round, or for rounds that copy more than they fire, the thread that serves
+        makes the rounds. The shim counts the threads."""
         disk = self.room / "jobs.disk"
         two = [((("a", 1), ("b", 1)), it) for it in ((1, 2), (444, 2), (445, 2), (1024, 2), (1024, 1))]
-        large = tuple((f"j{it}", 7000) for it in range(32))
-        for jobs, (count, asked) in [*two, (large, (1, 2)), (large, (100, 2)), (large[:20], (200, 2))]:
+        large, smaller = (tuple((f"j{it}", nodes) for it in range(32)) for nodes in (7000, 1000))
+        for jobs, (count, asked) in [*two, (large, (1, 2)), (large, (100, 2)), (smaller, (200, 4)), (smaller[:20], (60, 16))]:
             for workers in (1, 2, 7, 64):
                 put(disk, slot(1, EMPTY))
                 nets = [(name, "C(" * (nodes - 1) + "D" + ")" * (nodes - 1)) for name, nodes in jobs]
@@ -339,7 +340,8 @@ class Faults(Stops):
                 counts = shimmed(f"thread {10**9} once", self.log)
                 ran = self.serves(disk, lines, [*["accepted"] * len(jobs), f"ran {asked}"], "--workers", workers, env=counts)
                 threads = next(it.at for it in noted(self.log) if it.kind == "C")
-                is_lap = asked > 1 and asked * (18 * count + jobs[0][1]) >= 16_000
+                fires = 16 * count >= 2 * count + jobs[0][1]
+                is_lap = asked > 1 and fires and asked * (18 * count + jobs[0][1]) >= 16_000
                 made = workers - 1 if is_lap else 0
                 self.equals(ran.command, f"threads for {len(jobs)} jobs of {count} equations, and {asked} rounds", made, threads)
 

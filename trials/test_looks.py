@@ -95,9 +95,10 @@ class Rows(Trial):
                     continue
                 ran = run("trace", "--rounds", count, "--format", shown, "--limits", "served", given=text)
                 if answer.startswith((b"round\t", b"<svg", b"{")):
-                    is_cut = run("reduce", "--rounds", count, "--limits", "served", given=text).status == 5
-                    cut.add((kind, is_cut))
-                    self.ended(ran, out=answer, err=NOT_DONE * is_cut)
+                    reduced = run("reduce", "--rounds", count, "--limits", "served", given=text)
+                    cut.add((kind, reduced.status == 5))
+                    # It tells what is stuck or goes in a circle as well.
+                    self.ended(ran, out=answer, err=reduced.err)
                 else:
                     self.ended(ran, err=b"icserve: " + answer + b"\n", status=1)
                 tried += 1
@@ -144,12 +145,12 @@ class Rows(Trial):
 
     def test_figures_of_a_whole_trace_are_not(self):
         """Also if as many rounds are made as may be, or a stuck pair is left."""
-        for text, words, work in ((TWO, [], 2), (TWO, ["--rounds", 2], 2), ("{A><B} <|A=B,A=C>", [], 1)):
+        for text, words, work, stuck in ((TWO, [], 2, b""), (TWO, ["--rounds", 2], 2, b""), ("{A><B} <|A=B,A=C>", [], 1, b"icserve: stuck A><C\n")):
             told = f"icserve: work {work}, span {work}, pairs at once 1.0 on average, 1 at most\n".encode()
             ran = run("trace", "--stats", *words, given=text)
-            self.equals(ran.command, "status, and what is told", (0, told), (ran.status, ran.err))
+            self.equals(ran.command, "status, and what is told", (0, told + stuck), (ran.status, ran.err))
             ran = run("trace", "--stats", "--format", "json", *words, given=text)
-            self.equals(ran.command, "whether it is partial", (0, False), (ran.status, json.loads(ran.err)["partial"]))
+            self.equals(ran.command, "whether it is partial", (0, False), (ran.status, json.loads(ran.err.removesuffix(stuck))["partial"]))
 
     def test_as_many_rounds_as_there_may_be_are_taken(self):
         self.runs("reduce", "--rounds", MOST, given=TWO, out=["<S(S(Z))|>"])

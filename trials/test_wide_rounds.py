@@ -178,7 +178,8 @@ class WideRounds(Trial):
             seen["unsettled"] += bool(rows) and rows[0][1] == 0
             seen["circles"] += bool(circles_of(after[-1]))
             ran = run("trace", "--rounds", len(rows), given=text)
-            wanted = (0, rows, b"" if is_quiet else b"icserve: not done\n")
+            left = run("reduce", "--rounds", len(rows), "--quiet-answer", given=text).err
+            wanted = (0, rows, left if is_quiet else b"icserve: not done\n")
             self.equals(ran.command, "status, rows and what is told", wanted, (ran.status, rows_of(ran), ran.err))
             if is_quiet:
                 self.agrees(ran.command, "the trace without a bound", ran.out, run("trace", given=text).out)
