@@ -55,6 +55,7 @@ impl Bound {
 }
 
 /// Binds a name to a place that isn't bound.
+#[inline(always)]
 pub(crate) fn bind(bound: &mut Bound, name: u64, place: usize) -> Result<(), AllocError>
     requires { lookup (nat_eq name) bound.old.entries ≡ None }
     ensures updates { OnOk result ((y : ℕ) → lookup (nat_eq y) bound.new.entries
@@ -76,6 +77,7 @@ pub(crate) fn bind(bound: &mut Bound, name: u64, place: usize) -> Result<(), All
 }
 
 /// What a tree has for a name, which is taken out. Most often there is none.
+#[inline(always)]
 fn taken(others: &mut BTreeMap<u64, usize>, name: u64) -> Option<usize>
     ensures value { result ≡ lookup (nat_eq name) others.old.entries }
     ensures updates { (y : ℕ) → lookup (nat_eq y) others.new.entries
@@ -86,20 +88,44 @@ fn taken(others: &mut BTreeMap<u64, usize>, name: u64) -> Option<usize>
     if others.is_empty() {
         return None;
     }
+    removed(others, name)
+}
+
+/// The same, where the tree has names.
+#[cold]
+#[inline(never)]
+fn removed(others: &mut BTreeMap<u64, usize>, name: u64) -> Option<usize>
+    ensures value { result ≡ lookup (nat_eq name) others.old.entries }
+    ensures updates { (y : ℕ) → lookup (nat_eq y) others.new.entries
+        ≡ (if nat_eq name y then None else lookup (nat_eq y) others.old.entries) }
+    ensures entries { others.new.entries ≡ remove_entry (nat_eq name) others.old.entries }
+    ensures unchanged { IfNone result (others.new.entries ≡ others.old.entries) }
+{
     others.remove(&name)
 }
 
 /// Whether a tree has a name.
+#[inline(always)]
 fn has(others: &BTreeMap<u64, usize>, name: u64) -> bool
     ensures { result ≡ is_some (lookup (nat_eq name) others.now.entries) }
 {
     if others.is_empty() {
         return false;
     }
+    contains(others, name)
+}
+
+/// The same, where the tree has names.
+#[cold]
+#[inline(never)]
+fn contains(others: &BTreeMap<u64, usize>, name: u64) -> bool
+    ensures { result ≡ is_some (lookup (nat_eq name) others.now.entries) }
+{
     others.contains_key(&name)
 }
 
 /// What a name is bound to, which is taken out.
+#[inline(always)]
 pub(crate) fn unbound(bound: &mut Bound, name: u64) -> Option<usize>
     ensures value { result ≡ lookup (nat_eq name) bound.old.entries }
     ensures updates { (y : ℕ) → lookup (nat_eq y) bound.new.entries
@@ -118,6 +144,7 @@ pub(crate) fn unbound(bound: &mut Bound, name: u64) -> Option<usize>
 }
 
 /// Whether a name is bound.
+#[inline(always)]
 pub(crate) fn is_bound(bound: &Bound, name: u64) -> bool
     ensures { result ≡ is_some (lookup (nat_eq name) bound.now.entries) }
 {
@@ -130,6 +157,7 @@ pub(crate) fn is_bound(bound: &Bound, name: u64) -> bool
 
 /// The place of the term that stands for the one at a place. It is the same place, unless that term is a bound name:
 /// then it is the place so found for the term that the name is bound to.
+#[inline(always)]
 pub(crate) fn resolved(words: &[Word], place: usize, bound: &mut Bound) -> usize
     requires there { place < length words.now }
     requires within { AreWithin words.now bound.old.entries }

@@ -22,6 +22,7 @@ pub(crate) struct Containers {
     places: Places,
 }
 
+#[inline(always)]
 fn note_word(places: &mut Places, word: Word, place: usize) -> Result<(), AllocError>
     ensures { OnOk result ((y : ℕ) → found places.new y
         ≡ noted_in y place (word_names word) (found places.old y)) }
@@ -33,6 +34,7 @@ fn note_word(places: &mut Places, word: Word, place: usize) -> Result<(), AllocE
 }
 
 /// Notes the names among words that occur in a container.
+#[inline(always)]
 fn note_words(places: &mut Places, words: &[Word], place: usize) -> Result<(), AllocError>
     ensures { OnOk result ((y : ℕ) → found places.new y
         ≡ noted_in y place (flat_map word_names words.now) (found places.old y)) }
@@ -76,6 +78,7 @@ fn unlink(links: &mut Vec<usize>, count: usize) -> Result<(), AllocError>
 }
 
 /// Where the links from a container end. Halves the way there.
+#[inline(always)]
 fn root(links: &mut [usize], from: usize) -> usize
     requires inside { from < length links.old }
     requires linked { IsLinked links.old }
@@ -96,6 +99,7 @@ fn root(links: &mut [usize], from: usize) -> usize
 
 /// The name at the top of a side, if it occurs outside of the container with this number, and the container in which it
 /// occurs.
+#[inline(always)]
 fn find_outlet(
     links: &mut [usize],
     places: &Places,
@@ -128,6 +132,7 @@ fn find_outlet(
 }
 
 /// The first side of an equation that is a name which occurs outside of it, and the container in which it occurs.
+#[inline(always)]
 fn first_outlet(
     links: &mut [usize],
     places: &Places,
@@ -181,6 +186,7 @@ impl Containers {
 
     /// The applicable side of an equation whose resolved sides begin with these words, the left one if both are. What
     /// the equation holds then goes to the container in which the name occurs besides.
+    #[inline(always)]
     pub fn applicable(&mut self, left: Word, right: Word, place: usize) -> Option<Applicable>
         requires inside { place < length self.old.links.items }
         requires linked { IsLinked self.old.links.items }

@@ -48,6 +48,7 @@ fn put_at_once(words: &[Word], out: &mut Vec<Word>)
 }
 
 /// Appends words with their names made higher by the base.
+#[inline(always)]
 fn put_raised(words: &[Word], base: u64, out: &mut Vec<Word>)
     requires { HasRoom out.old words.now }
     ensures { Appended out.old out.new (map (raised_word base) words.now) }
@@ -57,6 +58,7 @@ fn put_raised(words: &[Word], base: u64, out: &mut Vec<Word>)
     }
 }
 
+#[inline(always)]
 fn raised(word: Word, base: u64) -> Word
     ensures { result ≡ raised_word base word }
 {
@@ -67,6 +69,7 @@ fn raised(word: Word, base: u64) -> Word
 }
 
 /// Appends the argument at a place, then the rule's term for it, and tells where both end.
+#[inline(always)]
 fn put_product(
     words: &[Word],
     place: usize,
@@ -95,6 +98,7 @@ fn put_product(
 
 /// Appends so many arguments of an agent, the first of them at a place, each followed by the rule's term for it, and
 /// tells where these terms end.
+#[inline(always)]
 fn put_products(
     words: &[Word],
     place: usize,

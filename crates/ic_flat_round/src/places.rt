@@ -59,6 +59,7 @@ impl Places {
     }
 
     /// The first and the last container of a name, if it was noted.
+    #[inline(always)]
     pub(crate) fn get(&self, name: u64) -> Option<(usize, usize)>
         ensures { result ≡ found self.now name }
     {
@@ -70,6 +71,7 @@ impl Places {
     }
 
     /// The spot that the slot of a name leads to.
+    #[inline(always)]
     fn spot(&self, name: u64) -> Option<Spot>
         ensures { result
             ≡ spot_of self.now.slots.items self.now.spots.items self.now.shift name }
@@ -79,16 +81,27 @@ impl Places {
     }
 
     /// The containers of a name whose slot another name has.
+    #[inline(always)]
     fn other(&self, name: u64) -> Option<(usize, usize)>
         ensures { result ≡ get nat_cmp self.now.others name }
     {
         if self.others.is_empty() {
             return None;
         }
+        self.looked_up(name)
+    }
+
+    /// The same, where there are such names.
+    #[cold]
+    #[inline(never)]
+    fn looked_up(&self, name: u64) -> Option<(usize, usize)>
+        ensures { result ≡ get nat_cmp self.now.others name }
+    {
         self.others.get(&name).copied()
     }
 
     /// Notes that a name occurs in a container, the last one so far.
+    #[inline(always)]
     pub(crate) fn note(&mut self, name: u64, place: usize) -> Result<(), AllocError>
         ensures { OnOk result ((y : ℕ) → found self.new y
             ≡ (if name == y then noted place (found self.old y) else found self.old y)) }
@@ -100,12 +113,14 @@ impl Places {
         }
     }
 
+    #[inline(always)]
     fn number(&self, slot: usize) -> Option<usize>
         ensures { result ≡ slice_get self.now.slots.items slot }
     {
         self.slots.get(slot).copied()
     }
 
+    #[inline(always)]
     fn numbered(&self, number: usize) -> Option<Spot>
         ensures { result ≡ slice_get self.now.spots.items number }
     {
@@ -113,6 +128,7 @@ impl Places {
     }
 
     /// The same for a name whose slot leads to this number.
+    #[inline(always)]
     fn note_at(
         &mut self,
         slot: usize,
@@ -141,6 +157,7 @@ impl Places {
     }
 
     /// The same for a name whose slot no name has.
+    #[inline(always)]
     fn note_new(&mut self, slot: usize, name: u64, place: usize) -> Result<(), AllocError>
         requires slot { slot ≡ slot_of self.old.shift name }
         requires within { slot < length self.old.slots.items }

@@ -23,6 +23,7 @@ pub(crate) struct Span {
 
 /// Writes the first word of a span, or turns to the term that its name is bound to, and tells what is to be written
 /// next.
+#[inline(always)]
 fn put_word(
     words: &[Word],
     span: Span,
@@ -72,6 +73,7 @@ fn put_word(
 }
 
 /// What is left of a span after its first word, if this word stands for itself: an agent, or a name that isn't bound.
+#[inline(always)]
 fn after_word(words: &[Word], span: Span, bound: &Bound) -> Option<Span>
     requires whole { IsWhole words.now }
     requires some { 0 < span.count }
@@ -96,6 +98,7 @@ fn after_word(words: &[Word], span: Span, bound: &Bound) -> Option<Span>
 }
 
 /// What is left of a span after its first words that stand for themselves.
+#[inline(always)]
 fn after_words(words: &[Word], span: Span, bound: &Bound) -> Span
     requires whole { IsWhole words.now }
     requires span { IsSpan words.now span }
@@ -112,6 +115,7 @@ fn after_words(words: &[Word], span: Span, bound: &Bound) -> Span
 }
 
 /// Writes the first words of a span that stand for themselves, at once, and tells what is left of it.
+#[inline(always)]
 fn put_words(
     words: &[Word],
     span: Span,
