@@ -101,6 +101,14 @@ module _ (c : Configuration) (ws : List Word) (kept : List Kept) (es es' es'' : 
         found says_it a is (waiting ws after) (transport (λ (u : Tree). IsAdded (waiting ws es'') (waiting ws after) a.name u) (other_is ws left right a.side) added);
   }
 
+-- while one is left, fewer were passed than there are
+pub number_within : (c : Configuration) (kept : List Pair) (es : List (ℕ × Tree)) (links : List ℕ) (look_up : ℕ → Option (ℕ × ℕ)) (number : ℕ) (all : List Pair)
+    (p : Pair) (rest : List Pair) → IsPassingAt c kept es links look_up number all → all ≡ p ∷ rest → number < length c.equations
+number_within c kept es links look_up number all p rest at next =
+    let chosen = at.counted in
+    let front = at.passing.counted in
+    omega (arith, chosen, front, ap length at.passing.split, length-append at.passing.front all, ap length next)
+
 -- at the end
 pub passed-at : (c : Configuration) (kept : List Pair) (es : List (ℕ × Tree)) (links : List ℕ) (look_up : ℕ → Option (ℕ × ℕ)) (number : ℕ) (rest : List Pair)
     → IsPassingAt c kept es links look_up number rest → rest ≡ [] → IsPassed c kept es

@@ -72,7 +72,7 @@ fn unlink(links: &mut Vec<usize>, count: usize) -> Result<(), AllocError>
     links.clear();
     links.reserve(count)?;
     for place in 0..count {
-        links.push(place)?;
+        links.push_reserved(place);
     }
     Ok(())
 }

@@ -53,7 +53,7 @@ pub(crate) fn pass(
                 let other = other_place(left, right, applicable.side);
                 bind(bound, applicable.name, other)?;
             }
-            None => kept.push(Kept { left, right })?,
+            None => kept.push_reserved(Kept { left, right }),
         }
         place = sides.end;
         number += 1;

@@ -9,7 +9,7 @@ use Rattle.ic_settle.specs.lemmas.Passing.{passing-start}
 use Rattle.ic_flat.specs.declared.word.Word.{Word}
 use Rattle.ic_flat.specs.declared.word.Word.TheVariants.{Name}
 use Rattle.ic_flat_round.specs.declared.pass.Kept.{Kept}
-use Rattle.ic_flat_rules.specs.Standing.{tree_at, pairs_at}
+use Rattle.ic_flat_rules.specs.Standing.{tree_at, pair_at, pairs_at}
 use Rattle.ic_flat_round.specs.inner.Waits.{waiting, AreWithin, IsKeptWithin, kept_at, other_place}
 use Rattle.ic_flat_rules.specs.lemmas.WordPlaces.{whole_words, pairs_start, twos_start, within_start, pairs_end}
 use Rattle.ic_flat_round.specs.inner.Places.{found}
@@ -17,9 +17,9 @@ use Rattle.ic_flat_round.proofs.BoundEntries.{added_is, not_there}
 use Rattle.ic_flat_round.proofs.BoundPlaces.{within-none, within-added}
 use Rattle.ic_flat_round.proofs.StackedSpans.{all_push}
 use Rattle.ic_flat_round.proofs.HeadLemmas.{chosen_at}
-use Rattle.ic_flat_round.proofs.PassingWords.{passing_at-start, turned-none, turned-new, turned-some, passed-at, other_there}
+use Rattle.ic_flat_round.proofs.PassingWords.{passing_at-start, turned-none, turned-new, turned-some, number_within, passed-at, other_there}
 use Rattle.ic_flat_round.proofs.pass.pass.Goals as goal
-use Rattle.ic_flat_round.proofs.pass.pass.Goals.{in-Some+in_ok-bind-in-Some, in-None+in_ok-push-in-None}
+use Rattle.ic_flat_round.proofs.pass.pass.Goals.{in-Some+in_ok-bind-in-Some, in-None}
 
 pub loop-place-init : goal.loop-place-init
 loop-place-init c =
@@ -37,6 +37,10 @@ loop-place-init c =
     let none : kept ≡ [] = c.in_ok-reserve.ensures.items ∙ c.clear-2.ensures.items in
     let es = c.clear.new.self.entries in
     let nothing : es ≡ [] = c.clear.ensures.empty in
+    let empty = c.clear-2.ensures.len in
+    let reserved = c.in_ok-reserve.ensures.len in
+    let enough = c.in_ok-reserve.ensures.ok in
+    let count = c.equations_len-count.ensures.equations in
     record {
       at = within_start flat ws place is start.within;
       twos = twos_start flat ws place is start.equations;
@@ -51,6 +55,8 @@ loop-place-init c =
       passing =
           passing_at-start flat ws kept es links look (pairs_at ws place) none nothing
           (pairs_start flat ws place is start.equations) (passing-start flat links look sound own made.places);
+      few = omega (arith, empty, reserved);
+      room = omega (arith, enough, count);
     }
 
 pub sides_at-sides-requires-clause-whole : goal.sides_at-sides-requires-clause-whole
@@ -76,6 +82,17 @@ bind-requires c =
     (turned-new flat ws c.loop-place.kept.items c.loop-place.bound.entries c.resolved-left.new.bound.entries es'' links links' look number (pairs_at ws c.loop-place.place)
     c.sides_at-sides.result left right chosen i.passing c.sides_at-sides.ensures.equations c.resolved-left.ensures.resolves c.resolved-right.ensures.resolves says
     c.in-Some.applicable c.in-Some.is)
+
+pub push_reserved-requires : goal.push_reserved-requires
+push_reserved-requires c =
+    let ws = c.words-words.result.now in
+    let i = c.loop-place.invariant in
+    let few = i.few in
+    let room = i.room in
+    let more = number_within c.args.flat.now (map (kept_at ws) c.loop-place.kept.items) (waiting ws c.loop-place.bound.entries) c.loop-place.containers.links.items
+    (found c.loop-place.containers.places) c.loop-place.number (pairs_at ws c.loop-place.place) (pair_at ws c.sides_at-sides.result) (pairs_at ws c.sides_at-sides.result.end) i.passing
+    c.sides_at-sides.ensures.equations in
+    omega (arith, few, room, more)
 
 pub loop-place-preserved : goal.loop-place-preserved
 unfolding found
@@ -107,6 +124,8 @@ loop-place-preserved c =
     λ y p is.
     let both = i.known y p (ap (λ f. f y) (sym same_look) ∙ is) in
     (omega (arith, both.0, applied.length), omega (arith, both.1, applied.length)) in
+    let few = i.few in
+    let room = i.room in
     elim c.match-applicable.branch [
       | in-Some+in_ok-bind-in-Some w ↦
           let a = w.in-Some.applicable in
@@ -126,12 +145,16 @@ loop-place-preserved c =
             kept = i.kept;
             passing = turned-some flat ws kept es es' es'' links links' look number (pairs_at ws c.loop-place.place) s left right found i.passing sides.equations
                 c.resolved-left.ensures.resolves c.resolved-right.ensures.resolves says a w.in-Some.is after turned;
+            few = omega (arith, few);
+            room = i.room;
           })
-      | in-None+in_ok-push-in-None w ↦
+      | in-None w ↦
           let it : Kept = record { left = left; right = right } in
           let turned = turned-none flat ws kept es es' es'' links links' look number (pairs_at ws c.loop-place.place) s left right found i.passing sides.equations
           c.resolved-left.ensures.resolves c.resolved-right.ensures.resolves says w.in-None.is in
-          rw (w.bound-is, w.kept-is, same_look, w.in_ok-push-in-None.ensures.items) (record {
+          let len = w.push_reserved.ensures.len in
+          let capacity = w.push_reserved.ensures.capacity in
+          rw (w.bound-is, w.kept-is, same_look, w.push_reserved.ensures.items) (record {
             at = sides.sides.right.within;
             twos = sides.twos;
             linked = applied.linked;
@@ -141,6 +164,8 @@ loop-place-preserved c =
             within = c.resolved-right.ensures.within;
             kept = all_push (IsKeptWithin ws) kept it i.kept (there, right_there);
             passing = turned;
+            few = omega (arith, few, len);
+            room = omega (arith, room, capacity);
           })
     ]
 

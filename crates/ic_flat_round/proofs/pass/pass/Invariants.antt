@@ -1,4 +1,5 @@
 use Rattle.std.proofs.Common.{◌≡◌, ◌+◌, ◌-◌, ◌≤◌, length, map}
+use Rattle.std.specs.Prelude.{vec_len, vec_capacity}
 use Rattle.std.specs.List.{AllByRecursion}
 use Rattle.ic_settle.specs.lemmas.Containers.{IsLinked, AreUnlinkedFrom, AreKnown}
 use Rattle.ic_flat_rules.specs.Standing.{pairs_at, AreInTwos}
@@ -7,7 +8,7 @@ use Rattle.ic_flat_round.specs.inner.Places.{found}
 use Rattle.ic_flat_round.proofs.PassingWords.{IsPassingAt}
 use Rattle.ic_flat_round.proofs.pass.pass.Given as goal
 
--- the slow settling is on its way, and the containers are sound
+-- the slow settling is on its way, the containers are sound, and there is room for all equations that may stay
 abbrev pub invariant-loop-place : goal.invariant-loop-place
 invariant-loop-place l = record {
   at : l.place ≤ length l.words;
@@ -21,6 +22,8 @@ invariant-loop-place l = record {
   passing :
       IsPassingAt l.flat (map (kept_at l.words) l.kept.items) (waiting l.words l.bound.entries) l.containers.links.items (found l.containers.places) l.number
       (pairs_at l.words l.place);
+  few : vec_len l.kept ≤ l.number;
+  room : length l.flat.equations ≤ vec_capacity l.kept;
 }
 
 abbrev pub decreases-loop-place : goal.decreases-loop-place
