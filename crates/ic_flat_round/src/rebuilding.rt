@@ -10,6 +10,7 @@ ghost use Rattle.ic_flat_round.specs.inner.Rebuilding.{IsSpan, IsRun, PutsOn, sp
 ghost use Rattle.ic_flat_round.specs.declared.rebuilding.Span.{Span};
 
 use crate::bound::{Bound, is_bound, unbound};
+use crate::firing::put_copied;
 use crate::pass::Kept;
 use ic_flat::Word;
 use std::alloc::AllocError;
@@ -114,7 +115,7 @@ fn after_words(words: &[Word], span: Span, bound: &Bound) -> Span
     rest
 }
 
-/// Writes the first words of a span that stand for themselves, at once, and tells what is left of it.
+/// Writes the first words of a span that stand for themselves, and tells what is left of it.
 #[inline(always)]
 fn put_words(
     words: &[Word],
@@ -136,7 +137,9 @@ fn put_words(
     if rest.place <= span.place {
         return Ok(rest);
     }
-    out.extend_from_slice(&words[span.place..rest.place])?;
+    let run = &words[span.place..rest.place];
+    out.reserve(run.len())?;
+    put_copied(run, out);
     Ok(rest)
 }
 

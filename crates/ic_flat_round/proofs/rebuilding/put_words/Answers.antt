@@ -22,4 +22,5 @@ returns-clause-puts c = λ stack.
     let es = c.args.bound.now.entries in
     let out = c.args.out.now.items in
     transport (λ (l : List Word). PutsOn (on_stack ws es out c.args.span stack) (on_stack ws es l c.after_words-rest.result stack))
-    (sym c.in_ok-extend_from_slice.ensures.items) (c.after_words-rest.ensures.puts out stack)
+    (sym (c.put_copied.ensures.items ∙ ap (λ l. l ++ words_between ws c.args.span.place c.after_words-rest.result.place) c.in_ok-reserve.ensures.items))
+    (c.after_words-rest.ensures.puts out stack)
