@@ -1,7 +1,18 @@
 -- What is appended to a list within its room, part by part.
-use Rattle.std.proofs.Common.{List, ◌++◌, length-append, append_assoc, ap, ◌∙◌, arith}
+use Rattle.std.proofs.Common.{◌≡◌, List, ◌++◌, length, length-append, append_assoc, ap, ◌∙◌, arith}
 use Rattle.std.specs.Prelude.{Vec}
 use Rattle.ic_flat_round.specs.inner.Room.{HasRoom, Appended, GoesOn, GoesOnTo}
+
+-- all of it is left at the start
+pub goes_on-start : {X Z : Type 0} (start : Vec X Z) (all left : List X) → HasRoom start all → left ≡ all → GoesOn start all start left
+goes_on-start start all left room same =
+    let long = ap length same in
+    record {
+      items = ap (λ l. start.items ++ l) same;
+      len = omega (arith, long);
+      capacity = omega arith;
+      room = omega (arith, room, long);
+    }
 
 pub goes_on-room : {X Z : Type 0} (start now : Vec X Z) (all xs left : List X) → GoesOn start all now (xs ++ left) → HasRoom now xs
 goes_on-room start now all xs left g = let room = g.room in omega (arith, room, length-append xs left)

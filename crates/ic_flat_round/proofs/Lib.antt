@@ -10,6 +10,7 @@ pub mod SettledWords
 pub mod HeadLemmas
 pub mod PutWords
 pub mod StackedSpans
+pub mod DueWords
 pub mod WrittenSpans
 pub mod RunWords
 pub mod BoundEntries

@@ -78,7 +78,7 @@ span-name ws s d x is some word =
     let enough : s.count - 1 ≤ length (after ws s) = omega (arith, is, some, ap length all) in
     (enough, λ i. take (one i) (all i))
 
-take-sum : (n a : ℕ) (ts : List Tree) → a ≤ length ts → take a ts ++ take n (drop a ts) ≡ take (n + a) ts
+pub take-sum : (n a : ℕ) (ts : List Tree) → a ≤ length ts → take a ts ++ take n (drop a ts) ≡ take (n + a) ts
 take-sum n zero ts enough = let same : n ≡ n + 0 = omega arith in ap (λ k. take k ts) same
 take-sum n (suc a) [] enough = absurd (omega (arith, enough))
 take-sum n (suc a) (t ∷ ts) enough =

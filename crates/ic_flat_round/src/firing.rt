@@ -1,10 +1,10 @@
 //! The words of products, put on a list that has room for them.
 
-ghost use Rattle.std.specs.Prelude.{◌≡◌, ◌+◌, ◌<◌, ◌≤◌, length, map, drop};
-ghost use Rattle.ic_flat.specs.Words.{forest, IsWhole};
+ghost use Rattle.std.specs.Prelude.{◌≡◌, ◌+◌, ◌<◌, ◌≤◌, length, drop};
+ghost use Rattle.ic_flat.specs.Words.{forest, IsWhole, tree_words};
 ghost use Rattle.ic_round.specs.Firing.{arguments};
 ghost use Rattle.ic_flat_round.specs.inner.Room.{HasRoom, Appended};
-ghost use Rattle.ic_flat_round.specs.inner.RuleWords.{raised_word, product_words, against_words, interaction_words};
+ghost use Rattle.ic_flat_round.specs.inner.RuleWords.{raised_word, raised_words, product_words, against_words, interaction_words};
 ghost use Rattle.ic_flat_rules.specs.Standing.{tree_at, IsTermAt};
 
 use ic_flat::{Word, end_of_term};
@@ -47,17 +47,7 @@ fn put_at_once(words: &[Word], out: &mut Vec<Word>)
     };
 }
 
-/// Appends words with their names made higher by the base.
-#[inline(always)]
-fn put_raised(words: &[Word], base: u64, out: &mut Vec<Word>)
-    requires { HasRoom out.old words.now }
-    ensures { Appended out.old out.new (map (raised_word base) words.now) }
-{
-    for word in words {
-        out.push_reserved(raised(*word, base));
-    }
-}
-
+/// A word of a rule, with its name made higher by the base.
 #[inline(always)]
 fn raised(word: Word, base: u64) -> Word
     ensures { result ≡ raised_word base word }
@@ -89,11 +79,47 @@ fn put_product(
     ensures put { Appended out.old out.new
         (product_words base (tree_at words.now place) (tree_at template.now from)) }
 {
+    let end = put_argument(words, place, out);
+    let until = put_template(template, from, base, out);
+    (end, until)
+}
+
+/// Appends the argument at a place, and tells where it ends. Most arguments are names.
+#[inline(always)]
+fn put_argument(words: &[Word], place: usize, out: &mut Vec<Word>) -> usize
+    requires whole { IsWhole words.now }
+    requires there { place < length words.now }
+    requires room { HasRoom out.old (tree_words (tree_at words.now place)) }
+    ensures argument { IsTermAt words.now place result }
+    ensures put { Appended out.old out.new (tree_words (tree_at words.now place)) }
+{
+    if words[place].arguments() == 0 {
+        out.push_reserved(words[place]);
+        return place + 1;
+    }
     let end = end_of_term(words, place);
     put_copied(&words[place..end], out);
-    let until = end_of_term(template, from);
-    put_raised(&template[from..until], base, out);
-    (end, until)
+    end
+}
+
+/// Appends a rule's term at a place with its names made higher by the base, and tells where it ends.
+#[inline(always)]
+fn put_template(template: &[Word], from: usize, base: u64, out: &mut Vec<Word>) -> usize
+    requires whole { IsWhole template.now }
+    requires there { from < length template.now }
+    requires room { HasRoom out.old (raised_words base (tree_at template.now from)) }
+    ensures term { IsTermAt template.now from result }
+    ensures put { Appended out.old out.new (raised_words base (tree_at template.now from)) }
+{
+    let mut due = 1;
+    let mut until = from;
+    while due > 0 {
+        let word = template[until];
+        due = due - 1 + word.arguments();
+        out.push_reserved(raised(word, base));
+        until += 1;
+    }
+    until
 }
 
 /// Appends so many arguments of an agent, the first of them at a place, each followed by the rule's term for it, and

@@ -16,9 +16,13 @@ abbrev pub raised_word : ℕ → Word → Word
 raised_word base (Name n) = Name (above base n)
 raised_word base (Agent s arity) = Agent s arity
 
--- an argument, and then a rule's term with its names made higher
+-- a rule's term with its names made higher
+abbrev pub raised_words : ℕ → Tree → List Word
+raised_words base u = tree_words (renamed (above base) u)
+
+-- an argument, and then such a term
 abbrev pub product_words : ℕ → Tree → Tree → List Word
-product_words base t u = tree_words t ++ tree_words (renamed (above base) u)
+product_words base t u = tree_words t ++ raised_words base u
 
 -- so many arguments, each against the rule's term
 abbrev pub against_words : ℕ → ℕ → List Tree → List Tree → List Word
