@@ -25,6 +25,7 @@ pub fn equations_place(flat: &Flat) -> usize
 }
 
 /// The places of the sides of the equation that begins at a place.
+#[inline(always)]
 pub fn sides_at(words: &[Word], place: usize) -> Sides
     requires whole { IsWhole words.now }
     requires there { place < length words.now }
