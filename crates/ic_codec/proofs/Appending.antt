@@ -1,6 +1,7 @@
 -- Bytes that are appended part by part.
-use Rattle.std.proofs.Common.{◌≡◌, ℕ, suc, ◌+◌, ◌<◌, List, [], ◌∷◌, ◌++◌, length, map, get_or, drop, drop-cons, add-one, refl, sym, ap, subst, ◌∙◌, append_assoc, arith}
-use Rattle.std.proofs.lemmas.List.{length-append}
+use Rattle.std.proofs.Common.{◌≡◌, ℕ, suc, ◌+◌, ◌-◌, ◌<◌, ◌≤◌, List, [], ◌∷◌, ◌++◌, length, map, get_or, take, drop, drop-cons, add-one, refl, sym, ap, subst, ◌∙◌, append_assoc, arith}
+use Rattle.std.proofs.lemmas.Grind.{flat_map-append}
+use Rattle.std.proofs.lemmas.List.{length-append, take-append-drop, drop-drop}
 use Rattle.std.specs.Prelude.{Vec}
 use Rattle.std.specs.List.{flat_map}
 use Rattle.ic_term.specs.declared.term.Term.{Term}
@@ -38,6 +39,15 @@ viewed_bytes_from view spell ys i y below is = ap (λ l. flat_map spell (map vie
 pub arguments_from : (ts : List Term) (i : ℕ) (t : Term) → i < length ts → t ≡ get_or ts i t
     → trees_bytes (trees_of (map tree (drop i ts))) ≡ tree_bytes (tree t) ++ trees_bytes (trees_of (map tree (drop (i + 1) ts)))
 arguments_from ts i t below is = ap (λ l. trees_bytes (trees_of (map tree l))) (from_place ts i t below is)
+
+-- those from a place on: those up to a later one, and those from there on
+pub bytes_in_two : {X : Type 0} (spell : X → List ℕ) (xs : List X) (i j : ℕ) → i ≤ j
+    → flat_map spell (drop i xs) ≡ flat_map spell (take (j - i) (drop i xs)) ++ flat_map spell (drop j xs)
+bytes_in_two {X = X} spell xs i j before =
+    let there : i + (j - i) ≡ j = omega (arith, before) in
+    ap (flat_map spell) (sym (take-append-drop (j - i) (drop i xs)))
+    ∙ flat_map-append spell (take (j - i) (drop i xs)) (drop (j - i) (drop i xs))
+    ∙ ap (λ (l : List X). flat_map spell (take (j - i) (drop i xs)) ++ flat_map spell l) (drop-drop (j - i) i xs ∙ ap (λ n. drop n xs) there)
 
 module _ {Z : Type 0} where
   -- the first part of what fits fits
@@ -82,4 +92,12 @@ module _ {Z : Type 0} where
     items = last.items ∙ ap (λ (bs : List ℕ). bs ++ ys) first.items ∙ append_assoc start.items xs ys;
     len = omega (arith, last.len, first.len, length-append xs ys);
     capacity = last.capacity ∙ first.capacity;
+  }
+
+  -- what is left is appended
+  pub left_appended : {start now new : Vec ℕ Z} {bytes left : List ℕ} → GoesOn start bytes now left → Appended now new left → Appended start new bytes
+  left_appended goes put = record {
+    items = put.items ∙ goes.items;
+    len = put.len ∙ goes.len;
+    capacity = put.capacity ∙ goes.capacity;
   }

@@ -70,7 +70,9 @@ pub(crate) fn put_byte(byte: u8, out: &mut Vec<u8>)
     out.push_reserved(byte);
 }
 
-fn put_bytes(bytes: &[u8], out: &mut Vec<u8>)
+/// Appends bytes in order.
+#[inline(always)]
+pub(crate) fn put_bytes(bytes: &[u8], out: &mut Vec<u8>)
     requires { Fits out.old bytes.now }
     ensures { Appended out.old out.new bytes.now }
 {

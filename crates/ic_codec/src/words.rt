@@ -1,21 +1,71 @@
 //! Words as bytes, and back.
 
-ghost use Rattle.std.specs.Prelude.{◌≡◌, ◌≤◌, IfOk, IfErr, length};
-ghost use Rattle.std.specs.List.{flat_map};
-ghost use Rattle.ic_codec.specs.inner.Room.{Fits, Appended};
+ghost use Rattle.std.specs.Prelude.{◌≡◌, ◌≤◌, Some, None, IfOk, IfErr, length, if◌then◌else◌};
+ghost use Rattle.std.specs.List.{flat_map, list_all};
+ghost use Rattle.ic_codec.specs.inner.Room.{AreBytes, Fits, Appended};
 ghost use Rattle.ic_codec.specs.inner.Fronts.{BeginsWith, BeginsWithNone};
-ghost use Rattle.ic_codec.specs.inner.WordFronts.{word_bytes, HasWordBytes, BeginsWithWords, BeginsWithNoWords};
+ghost use Rattle.ic_codec.specs.inner.WordFronts.{word_bytes, is_agent, HasWordBytes, BeginsWithWords, BeginsWithNoWords};
 ghost use Rattle.ic_codec.specs.declared.fault.CodecFault.TheVariants.{NotATable};
+ghost use Rattle.ic_codec.specs.declared.words.TheConstants.{GROUP};
 
 use crate::fault::CodecFault;
-use crate::fields::{byte_at, eight_bytes_at, put_byte, put_eight_bytes};
+use crate::fields::{byte_at, eight_bytes_at, put_byte, put_bytes, put_eight_bytes};
 use crate::terms::NAME;
 use ic_flat::Word;
 use ic_term::{MAX_NODES, Symbols};
 use std::alloc::Global;
 
+/// So many words are written at a time.
+const GROUP: usize = 16;
+
 /// Appends words in order.
 pub(crate) fn put_words(words: &[Word], out: &mut Vec<u8>)
+    requires { Fits out.old (flat_map word_bytes words.now) }
+    ensures { Appended out.old out.new (flat_map word_bytes words.now) }
+{
+    let mut place = 0;
+    while words.len() - place >= GROUP {
+        put_group(&words[place..place + GROUP], out);
+        place += GROUP;
+    }
+    put_each(&words[place..], out);
+}
+
+/// Appends so many words in order. Where all are agents, as in a long term, their bytes are known before the first is
+/// written.
+#[inline(always)]
+fn put_group(words: &[Word], out: &mut Vec<u8>)
+    requires many { length words.now ≡ GROUP }
+    requires fits { Fits out.old (flat_map word_bytes words.now) }
+    ensures { Appended out.old out.new (flat_map word_bytes words.now) }
+{
+    match agent_bytes(words) {
+        Some(bytes) => put_bytes(&bytes, out),
+        None => put_each(words, out),
+    }
+}
+
+/// The bytes of so many words, if all are agents.
+#[inline(always)]
+fn agent_bytes(words: &[Word]) -> Option<[u8; GROUP]>
+    requires many { length words.now ≡ GROUP }
+    requires bytes { AreBytes (flat_map word_bytes words.now) }
+    ensures { result
+        ≡ (if list_all is_agent words.now then Some (flat_map word_bytes words.now) else None) }
+{
+    let mut bytes = [0; GROUP];
+    for place in 0..GROUP {
+        match words[place] {
+            Word::Agent(sym, _) => bytes[place] = sym as u8,
+            Word::Name(_) => return None,
+        }
+    }
+    Some(bytes)
+}
+
+/// Appends words in order, one by one.
+#[inline(never)]
+fn put_each(words: &[Word], out: &mut Vec<u8>)
     requires { Fits out.old (flat_map word_bytes words.now) }
     ensures { Appended out.old out.new (flat_map word_bytes words.now) }
 {

@@ -1,5 +1,5 @@
 -- Words as bytes, and what a front of bytes is, as words are read. Inner: private functions cite it.
-use Rattle.std.specs.Prelude.{◌≡◌, ◌≢◌, ◌^◌, ◌<◌, ◌≤◌, ℕ, List, [], ◌∷◌, ◌++◌, length, IsTrue}
+use Rattle.std.specs.Prelude.{◌≡◌, ◌≢◌, ◌^◌, ◌<◌, ◌≤◌, ℕ, List, [], ◌∷◌, ◌++◌, length, Bool, true, false, IsTrue}
 use Rattle.std.specs.List.{flat_map, AllByRecursion}
 use Rattle.ic_term.specs.Symbol.{Symbol}
 use Rattle.ic_flat.specs.declared.word.Word.{Word}
@@ -11,6 +11,11 @@ use Rattle.ic_codec.specs.Numbers.{eight_bytes}
 abbrev pub word_bytes : Word → List ℕ
 word_bytes (Name n) = 255 ∷ eight_bytes n
 word_bytes (Agent s arity) = s ∷ []
+
+-- a word is an agent, and no name
+abbrev pub is_agent : Word → Bool
+is_agent (Name n) = false
+is_agent (Agent s arity) = true
 
 -- A word that has bytes: an agent's symbol is known, with as many arguments as its arity, and a name
 -- fits in eight bytes.
