@@ -2,6 +2,7 @@
 
 ghost use Rattle.std.specs.Prelude.{◌≡◌, IfOk, if◌then◌else◌};
 ghost use Rattle.std.specs.Arc.{arc_value};
+ghost use Rattle.std.specs.Str.{bytes_eq};
 ghost use Rattle.ic_jobs.specs.declared.state.State.TheVariants.{Running, Done, Spent};
 ghost use Rattle.ic_jobs.specs.Budget.{is_used_up};
 ghost use Rattle.ic_jobs.specs.Job.{open_state};
@@ -221,7 +222,7 @@ impl Job {
         ensures named { result ≡ is_named name.now self.now }
         ensures sound { IsJob self.now }
     {
-        name.as_bytes() == self.name.as_bytes()
+        are_same(name.as_bytes(), self.name.as_bytes())
     }
 
     /// Whether it has these rules, this whole configuration and these rounds.
@@ -344,4 +345,21 @@ fn state_after(quiet: bool, rounds: u64, budget: &Option<Budget>) -> State
     } else {
         State::Running
     }
+}
+
+/// Whether these are the same bytes, compared one by one. For names, which are short, this takes fewer instructions than
+/// `==` of slices.
+#[inline(always)]
+fn are_same(left: &[u8], right: &[u8]) -> bool
+    ensures { result ≡ bytes_eq left.now right.now }
+{
+    if left.len() != right.len() {
+        return false;
+    }
+    for i in 0..left.len() {
+        if left[i] != right[i] {
+            return false;
+        }
+    }
+    true
 }
