@@ -1,10 +1,11 @@
 //! The lists that rounds are made in.
 
-ghost use Rattle.std.specs.Prelude.{◌≡◌, ℕ, ◌+◌, List, IfOk, OnOk, OnErr, IsTrue};
+ghost use Rattle.std.specs.Prelude.{◌≡◌, ℕ, ◌+◌, List, [], length, vec_len, if◌then◌else◌, IfOk, OnOk, OnErr, IsTrue};
 ghost use Rattle.ic_term.specs.Symbol.{Symbol, is_over};
 ghost use Rattle.ic_term.specs.Configuration.{Configuration};
 ghost use Rattle.ic_settle.specs.Settling.{settled};
 ghost use Rattle.ic_settle.specs.NameSteps.{NameStep, NameSteps};
+ghost use Rattle.ic_flat.specs.Flat.{configuration_of, IsAfterTerms, IsFlat};
 ghost use Rattle.ic_round.specs.Steps.{Steps};
 ghost use Rattle.ic_round.specs.Rounds.{round, iterate, unless_unfit};
 ghost use Rattle.ic_round.specs.RoundAnswers.{Answers};
@@ -55,28 +56,49 @@ impl Workspace {
         ensures over { IfOk result (λ after. (symbols : List Symbol)
             → IsTrue (is_over symbols flat.now) → IsTrue (is_over symbols after)) }
     {
+        let place = self.settle_words(flat)?;
+        let words = mem::replace(&mut self.settled, Vec::new(alloc));
+        let terms = flat.interface_len();
+        let equations = self.kept.len();
+        Ok(Flat::with_place(words, terms, equations, flat.next(), place))
+    }
+
+    /// Settles a configuration into the list of settled words, with as many equations as are kept, and tells the place
+    /// where these begin.
+    fn settle_words(&mut self, flat: &Flat) -> Result<usize, AllocError>
+        ensures flat { OnOk result (IsFlat self.new.settled.items
+            (length flat.now.interface) (vec_len self.new.kept) flat.now.next) }
+        ensures settled { OnOk result (configuration_of self.new.settled.items
+            (length flat.now.interface) flat.now.next ≡ settled flat.now) }
+        ensures place { IfOk result
+            (IsAfterTerms self.new.settled.items (length flat.now.interface)) }
+    {
         let words = flat.words();
         let terms = flat.interface_len();
         pass(flat, &mut self.containers, &mut self.bound, &mut self.kept)?;
-        let mut out = mem::replace(&mut self.settled, Vec::new(alloc));
-        out.clear();
-        out.reserve(words.len())?;
+        self.settled.clear();
+        self.settled.reserve(words.len())?;
         self.stack.clear();
         let interface = Span {
             place: 0,
             count: terms,
         };
-        put_terms(words, interface, &mut self.bound, &mut self.stack, &mut out)?;
-        let place = out.len();
+        put_terms(
+            words,
+            interface,
+            &mut self.bound,
+            &mut self.stack,
+            &mut self.settled,
+        )?;
+        let place = self.settled.len();
         put_equations(
             words,
             &self.kept,
             &mut self.bound,
             &mut self.stack,
-            &mut out,
+            &mut self.settled,
         )?;
-        let equations = self.kept.len();
-        Ok(Flat::with_place(out, terms, equations, flat.next(), place))
+        Ok(place)
     }
 
     /// Makes a round of a configuration, in its place. Where it is refused, the configuration stays.
@@ -141,14 +163,27 @@ impl Workspace {
         if is_short {
             self.settled = Vec::new(alloc);
         }
-        let settled = self.settle(alloc, flat)?;
-        let len = settled.words().len();
-        if is_short && words.saturating_sub(len) <= len / 4 {
-            return Ok(settled);
-        }
-        let after = settled.copy(alloc)?;
-        let (settled, _, _, _) = settled.into_parts();
-        self.settled = settled;
-        Ok(after)
+        let place = self.settle_words(flat)?;
+        let len = self.settled.len();
+        let is_close = is_short && words.saturating_sub(len) <= len / 4;
+        let settled = taken_or_copied(alloc, &mut self.settled, is_close)?;
+        let terms = flat.interface_len();
+        let equations = self.kept.len();
+        Ok(Flat::with_place(settled, terms, equations, flat.next(), place))
     }
+}
+
+/// The words of a list, in a list of their own: the list itself, which leaves an empty one, or else a copy.
+fn taken_or_copied(
+    alloc: Global,
+    words: &mut Vec<Word>,
+    is_taken: bool,
+) -> Result<Vec<Word>, AllocError>
+    ensures own { IfOk result (λ own. own.items ≡ words.old.items) }
+    ensures left { words.new.items ≡ (if is_taken then [] else words.old.items) }
+{
+    if is_taken {
+        return Ok(mem::replace(words, Vec::new(alloc)));
+    }
+    Vec::from_slice(alloc, words)
 }
