@@ -1,12 +1,12 @@
 //! Rule sets: how they are built, why rules make none, and the rule of two symbols.
 
 ghost use Rattle.std.specs.Prelude.{◌≡◌, ◌≤◌, ◌+◌, ◌↔◌, IsTrue, nat_le, length, map, min, sum_by, None, is_some, ◌||◌, IfOk, IfErr, OnOk, Ok, Err};
-ghost use Rattle.std.specs.List.{list_all, AllByRecursion};
+ghost use Rattle.std.specs.List.{list_all, position_from, AllByRecursion};
 ghost use Rattle.ic_term.specs.Tree.{nodes};
 ghost use Rattle.ic_term.specs.Term.{tree};
-ghost use Rattle.ic_rules.specs.Rule.{rule_nodes, numbered, IsRule};
+ghost use Rattle.ic_rules.specs.Rule.{rule_nodes, numbered, stands_for, IsRule};
 ghost use Rattle.ic_rules.specs.RuleFault.{Answers};
-ghost use Rattle.ic_rules.specs.RuleSet.{built, are_few, IsRuleSet, first_uncounted, first_repeated, first_lopsided};
+ghost use Rattle.ic_rules.specs.RuleSet.{built, are_few, rule_for, IsRuleSet, first_uncounted, first_repeated, first_lopsided};
 ghost use Rattle.ic_rules.specs.inner.RuleFault.{IsTwice, IsLopsided};
 ghost use Rattle.ic_rules.specs.Written.{written};
 ghost use Rattle.ic_rules.specs.inner.Places.{ArePlaces, pair_cmp};
@@ -55,6 +55,9 @@ impl<T: Drop> From<AllocFailed<T>> for RuleFault {
     }
 }
 
+/// At most so many rules are gone through one by one, where the rule of two symbols is looked for.
+const FEW: usize = 8;
+
 /// Two symbols by number, in this order.
 #[derive(Clone, Copy, PartialEq, Eq, PartialOrd, Ord)]
 struct SymbolPair {
@@ -89,7 +92,7 @@ impl Model for RuleSet {
 }
 
 impl RuleSet {
-    ghost use Rattle.ic_rules.specs.RuleSet.{rule_for, AreServed};
+    ghost use Rattle.ic_rules.specs.RuleSet.{AreServed};
 
     /// The rule set of these rules, the names of each numbered by first occurrence.
     pub fn build(
@@ -132,10 +135,23 @@ impl RuleSet {
             && argument_nodes(&self.rules) <= MAX_RULE_NODES
     }
 
-    /// The place of the rule of two symbols, and whether `a` is its right symbol only. Takes two look-ups at most.
+    /// The place of the rule of two symbols, and whether `a` is its right symbol only. Goes through a few rules twice at
+    /// most, and takes two look-ups at most where there are more.
+    #[inline(always)]
     pub fn find(&self, a: u32, b: u32) -> Option<(usize, bool)>
         ensures rule { result ≡ rule_for self.now.rules a b }
         ensures sound { IsRuleSet self.now }
+    {
+        if self.rules.len() <= FEW {
+            return find_among(&self.rules, a, b);
+        }
+        self.find_by_places(a, b)
+    }
+
+    /// The same, by the map of places.
+    #[inline(never)]
+    fn find_by_places(&self, a: u32, b: u32) -> Option<(usize, bool)>
+        ensures { result ≡ rule_for self.now.rules a b }
     {
         let pair = SymbolPair {
             first: a,
@@ -153,6 +169,33 @@ impl RuleSet {
             },
         }
     }
+}
+
+/// The place of the rule of two symbols, and whether `a` is its right symbol only, rule by rule.
+#[inline(always)]
+fn find_among(rules: &[Rule], a: u32, b: u32) -> Option<(usize, bool)>
+    ensures { result ≡ rule_for rules.now a b }
+{
+    match place_among(rules, a, b) {
+        Some(place) => Some((place, false)),
+        None => match place_among(rules, b, a) {
+            Some(place) => Some((place, true)),
+            None => None,
+        },
+    }
+}
+
+/// The place of the first rule of two symbols, as they stand.
+#[inline(always)]
+fn place_among(rules: &[Rule], left: u32, right: u32) -> Option<usize>
+    ensures { result ≡ position_from (stands_for left right) 0 rules.now }
+{
+    for (place, rule) in rules.iter().enumerate() {
+        if rule.left() == left && rule.right() == right {
+            return Some(place);
+        }
+    }
+    None
 }
 
 impl PartialEq for RuleSet {

@@ -2,18 +2,18 @@ use Rattle.std.proofs.Common.{true, false, None, ap, ◌∙◌}
 use Rattle.std.specs.List.{position_from}
 use Rattle.ic_rules.specs.Rule.{stands_for}
 use Rattle.ic_rules.specs.RuleSet.{rule_for, found_or}
-use Rattle.ic_rules.proofs.rule_set.RuleSet.find.Goals as goal
+use Rattle.ic_rules.proofs.rule_set.RuleSet.find_by_places.Goals as goal
 
-pub returns-in-Some-clause-rule : goal.returns-in-Some-clause-rule
-returns-in-Some-clause-rule c =
+pub returns-in-Some : goal.returns-in-Some
+returns-in-Some c =
     let rs = c.self.inside.rules.items in
     let a = c.args.a in
     let b = c.args.b in
     let found = c.in-Some.ensures.value ∙ c.self.invariant.1.each (record { first = a; second = b }) in
     ap (λ o. found_or false o (found_or true (position_from (stands_for b a) 0 rs) None)) found ∙ ap (λ s. rule_for s.rules a b) c.self.view_is
 
-pub returns-in-Some-get-clause-rule : goal.returns-in-Some-get-clause-rule
-returns-in-Some-get-clause-rule c =
+pub returns-in-Some-get : goal.returns-in-Some-get
+returns-in-Some-get c =
     let rs = c.self.inside.rules.items in
     let a = c.args.a in
     let b = c.args.b in
@@ -21,8 +21,8 @@ returns-in-Some-get-clause-rule c =
     let found = c.in-Some-get.ensures.value ∙ c.self.invariant.1.each (record { first = b; second = a }) in
     (λ i. found_or false (none i) (found_or true (found i) None)) ∙ ap (λ s. rule_for s.rules a b) c.self.view_is
 
-pub returns-in-None-get-clause-rule : goal.returns-in-None-get-clause-rule
-returns-in-None-get-clause-rule c =
+pub returns-in-None-get : goal.returns-in-None-get
+returns-in-None-get c =
     let rs = c.self.inside.rules.items in
     let a = c.args.a in
     let b = c.args.b in
