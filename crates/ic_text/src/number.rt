@@ -2,6 +2,7 @@
 
 ghost use Rattle.std.specs.Prelude.{◌≡◌, ◌≢◌, ◌≤◌, ◌++◌, List, Ok, length, IfErr, IfOk, IfSome, OnOk, Some, slice_get};
 ghost use Rattle.std.specs.List.{AllByRecursion};
+ghost use Rattle.std.specs.Str.{bytes_eq};
 ghost use Rattle.ic_term.specs.Symbol.{AreSymbols, Symbol};
 ghost use Rattle.ic_text.specs.Limits.{most_symbols};
 ghost use Rattle.ic_text.specs.inner.Prefix.{head_words, node_of, nodes_of};
@@ -47,7 +48,25 @@ fn number_again(symbols: &Symbols, number: u32, node: &Node) -> Option<u32>
     if number as usize >= symbols.len() {
         return None;
     }
-    (symbols.text(number) == node.text && symbols.arity(number) == node.arity).then_some(number)
+    let same = are_same(symbols.text(number), node.text) && symbols.arity(number) == node.arity;
+    same.then_some(number)
+}
+
+/// Whether these are the same bytes, compared one by one. For symbols, which are short, this takes fewer instructions
+/// than `==` of slices.
+#[inline(always)]
+fn are_same(left: &[u8], right: &[u8]) -> bool
+    ensures { result ≡ bytes_eq left.now right.now }
+{
+    if left.len() != right.len() {
+        return false;
+    }
+    for i in 0..left.len() {
+        if left[i] != right[i] {
+            return false;
+        }
+    }
+    true
 }
 
 /// A word with its number, which a symbol gets from the table, or from the numbers that are remembered.
