@@ -39,3 +39,4 @@ pub mod Innocence
 pub mod RuleNodes
 pub mod Fitting
 pub mod ByHeads
+pub mod FirstByte

@@ -1,8 +1,9 @@
 //! Names: a letter, and a number where it has one; and what digits write.
 
-ghost use Rattle.std.specs.Prelude.{◌≡◌, IsTrue};
+ghost use Rattle.std.specs.Prelude.{◌≡◌, ◌||◌, IsTrue};
 ghost use Rattle.std.specs.List.{list_all};
 ghost use Rattle.std.specs.Char.{is_ascii_digit};
+ghost use Rattle.ic_term.specs.Symbol.{is_symbol_text};
 ghost use Rattle.ic_text.specs.Name.{is_name, is_numeral, number_in, name_number, up_to};
 
 use crate::limits::MAX_NAME;
@@ -10,7 +11,12 @@ use crate::limits::MAX_NAME;
 fn are_digits(text: &[u8]) -> bool
     ensures { result ≡ list_all is_ascii_digit text.now }
 {
-    text.iter().all(|byte| byte.is_ascii_digit())
+    for byte in text {
+        if !byte.is_ascii_digit() {
+            return false;
+        }
+    }
+    true
 }
 
 /// Whether a byte list is nothing, or digits without a leading zero.
@@ -23,7 +29,21 @@ pub fn is_numeral(text: &[u8]) -> bool
     }
 }
 
+/// Whether a name or a symbol is a name: its first byte tells.
+#[inline(always)]
+#[tactic(auto, using(crate::proofs::FirstByte::first_tells))]
+pub(crate) fn begins_name(text: &[u8]) -> bool
+    requires word { IsTrue (is_name text.now || is_symbol_text text.now) }
+    ensures { result ≡ is_name text.now }
+{
+    match text.split_first() {
+        None => false,
+        Some((letter, _)) => letter.is_ascii_lowercase(),
+    }
+}
+
 /// Whether a word is a name.
+#[inline(always)]
 pub(crate) fn is_name(text: &[u8]) -> bool
     ensures { result ≡ is_name text.now }
 {

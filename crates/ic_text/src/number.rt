@@ -13,7 +13,7 @@ use crate::excess::{Excess, limit_at};
 use crate::fault::TextFault;
 use crate::limits::Limits;
 use crate::misread::Limit;
-use crate::name::{is_name, name_number};
+use crate::name::{begins_name, is_name, name_number};
 use crate::prefix::{Head, Node};
 use crate::refusal::Refusal;
 use ic_flat::Word;
@@ -82,7 +82,7 @@ fn number_word(
     ensures symbols { OnOk result (symbols.new ≡ table_with symbols.old (node_of node.now)) }
     ensures same { IfErr result (λ fault. fault ≢ SymbolFault.Limit → symbols.new ≡ symbols.old) }
 {
-    if is_name(node.text) {
+    if begins_name(node.text) {
         return match name_number(node.text) {
             Some(name) => Ok(Word::Name(name)),
             None => Err(SymbolFault::Limit),

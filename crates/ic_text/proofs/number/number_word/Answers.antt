@@ -17,7 +17,7 @@ returns-in-Some-number_again-clause-word c =
     let number = c.in-Some-number_again.number in
     let there = slice_get_within c.args.symbols.now number w c.in-Some-number_again.ensures.number in
     let room : nat_lt number (most_symbols c.args.limits) ≡ true = lt-ltb number (most_symbols c.args.limits) (omega (arith, there, c.requires.few)) in
-    rw (sym c.is_name.ensures ∙ c.if-is_name.false)
+    rw (sym c.begins_name.ensures ∙ c.if-begins_name.false)
     (ap (λ (b : Bool). cond {A = Result Word SymbolFault} b (Ok (Agent number w.arity)) (Err Limit)) (sym room)
     ∙ ap (agent_word c.args.limits w.arity)
     (numbered_again c.args.symbols.now number w c.in-Some-number_again.ensures.sound c.in-Some-number_again.ensures.number))
@@ -25,5 +25,5 @@ returns-in-Some-number_again-clause-word c =
 pub returns-in-Some-number_again-clause-symbols : goal.returns-in-Some-number_again-clause-symbols
 returns-in-Some-number_again-clause-symbols c =
     let w = node_of c.args.node.now in
-    rw (sym c.is_name.ensures ∙ c.if-is_name.false)
+    rw (sym c.begins_name.ensures ∙ c.if-begins_name.false)
     (stays_with c.args.symbols.now c.in-Some-number_again.number w c.in-Some-number_again.ensures.sound c.in-Some-number_again.ensures.number)
