@@ -197,6 +197,7 @@ fn known_number(number: u32, known: usize, arity: usize) -> Result<u32, SymbolFa
 }
 
 /// Whether a text is a symbol's, of whatever length.
+#[inline(always)]
 pub fn is_symbol(text: &[u8]) -> bool
     ensures { result ≡ is_symbol_text text.now }
 {
@@ -215,5 +216,10 @@ fn begins_symbol(byte: u8) -> bool
 fn is_alphanumeric(text: &[u8]) -> bool
     ensures { result ≡ list_all is_ascii_alphanumeric text.now }
 {
-    text.iter().all(|byte| byte.is_ascii_alphanumeric())
+    for byte in text {
+        if !byte.is_ascii_alphanumeric() {
+            return false;
+        }
+    }
+    true
 }
