@@ -1,16 +1,16 @@
 -- How the pieces of blocks change with their words.
-use Rattle.std.proofs.Common.{◌≡◌, ℕ, zero, suc, ◌+◌, ◌*◌, ◌<◌, ◌≤◌, ◌==◌, List, [], ◌∷◌, ◌++◌, false, length, map, take, drop, refl, ap, sym, ◌∙◌, subst, arith, append_assoc, zero-add, sum_by, slice_set, slice_index_or}
+use Rattle.std.proofs.Common.{◌≡◌, ℕ, zero, suc, ◌+◌, ◌-◌, ◌*◌, ◌<◌, ◌≤◌, ◌==◌, List, [], ◌∷◌, ◌++◌, false, length, map, take, drop, refl, ap, sym, ◌∙◌, subst, arith, append_assoc, zero-add, sum_by, slice_set, slice_index_or}
 use Rattle.std.specs.List.{AllByRecursion}
 use Rattle.std.proofs.Math.Nat.{suc-mul, zero-mul}
 use Rattle.std.proofs.Math.Seq.{take-append_seam, drop-append_seam, drop-cons, set-append_seam}
 use Rattle.std.proofs.lemmas.Bool.{ne_eqb}
 use Rattle.std.proofs.lemmas.List.Sums.{sum_by-append}
-use Rattle.std.proofs.lemmas.List.{append-nil, take-append-le, drop-append-le, length-append, length-drop, length-map, length-take-le, map-append, take_more, take-append-drop, drop-drop}
+use Rattle.std.proofs.lemmas.List.{append-nil, take-append-le, drop-append-le, length-append, length-drop, length-map, length-take-le, map-append, take_more, take_all, take-append-drop, drop-drop}
 use Rattle.ic_arena.specs.declared.word.Word.{Word}
 use Rattle.ic_arena.specs.declared.word.TheConstants.{FREE, IDLE}
 use Rattle.ic_arena.specs.Word.{agent_word, name_word}
 use Rattle.ic_arena.specs.Piece.{Piece, agent_of, room}
-use Rattle.ic_arena.specs.Tables.{Replaced, block_piece, blocks_from, register}
+use Rattle.ic_arena.specs.Tables.{Replaced, Blocks, block_at, block_piece, blocks_from, register}
 use Rattle.ic_arena.specs.lemmas.Rooms.{other_index, blocks_elsewhere}
 use Rattle.ic_arena.proofs.NamesPieces.{replaced_as}
 
@@ -107,6 +107,14 @@ length_block k j m ws h =
     let less : k ≤ length (drop (j * k) ws) = rw (length-drop (j * k) ws) (omega arith) in
     length-take-le k (drop (j * k) ws) less
 
+-- a block has as many words as the arity
+pub block_long : (b : Blocks) (i : ℕ) → length b.words ≡ b.count * b.arity → i < b.count
+    → length (block_at b i) ≡ b.arity
+block_long b i whole there =
+    let m : ℕ = b.count - suc i in
+    let e : b.count ≡ i + suc m = omega arith in
+    length_block b.arity i m b.words (subst (λ (n : ℕ). length b.words ≡ n * b.arity) e whole)
+
 -- a block is its first word and others
 pub block_first : (k at : ℕ) (ws : List Word) (d : Word) → 1 ≤ k → at < length ws
     → (rest : List Word) × (take k (drop at ws) ≡ slice_index_or ws at d ∷ rest)
@@ -200,7 +208,28 @@ block_freed s (suc k) j m n i ws e h some =
     subst (λ (l : List Word). Replaced (block_piece (agent_word s j) (take (suc k) (drop at ws))) []
     (blocks_from s (suc k) 0 n ws) (blocks_from s (suc k) 0 n l)) (sym set) s2
 
--- one more word is written
+-- one more word is written, after others that are
+pub put_next : (old vs : List Word) (at i : ℕ) (v d : Word) → length vs ≡ i → at + i < length old
+    → slice_set (take at old ++ (vs ++ drop (at + i) old)) (at + i) v
+    ≡ take at old ++ ((vs ++ v ∷ []) ++ drop (at + (i + 1)) old)
+put_next old vs at i v d long there =
+    let front : List Word = take at old ++ vs in
+    let y : Word = slice_index_or old (at + i) d in
+    let seam : drop (at + i) old ≡ y ∷ drop (suc (at + i)) old = drop-cons old (at + i) d there in
+    let len : length front ≡ at + i = length-append (take at old) vs ∙ (rw (length-take-le at old (omega arith), long) refl) in
+    let parts : take at old ++ (vs ++ drop (at + i) old) ≡ front ++ (y ∷ drop (suc (at + i)) old) =
+    ap (λ (l : List Word). take at old ++ (vs ++ l)) seam
+    ∙ sym (append_assoc (take at old) vs (y ∷ drop (suc (at + i)) old)) in
+    let set : slice_set (take at old ++ (vs ++ drop (at + i) old)) (at + i) v ≡ front ++ (v ∷ drop (suc (at + i)) old) =
+    ap (λ (l : List Word). slice_set l (at + i) v) parts
+    ∙ subst (λ (x : ℕ). slice_set (front ++ (y ∷ drop (suc (at + i)) old)) x v
+    ≡ front ++ (v ∷ drop (suc (at + i)) old)) len (set-append_seam front y (drop (suc (at + i)) old) v) in
+    let next : suc (at + i) ≡ at + (i + 1) = omega arith in
+    set ∙ (append_assoc (take at old) vs (v ∷ drop (suc (at + i)) old)
+    ∙ ap (λ (l : List Word). take at old ++ l)
+    (sym (append_assoc vs (v ∷ []) (drop (suc (at + i)) old)) ∙ (rw next refl)))
+
+-- one more word of registers
 pub write_more : (old rs : List Word) (ops : List ℕ) (at i : ℕ) (ws : List Word) (d : Word)
     → i < length ops → at + length ops ≤ length old
     → ws ≡ take at old ++ (map (register rs) (take i ops) ++ drop (at + i) old)
@@ -208,27 +237,52 @@ pub write_more : (old rs : List Word) (ops : List ℕ) (at i : ℕ) (ws : List W
     ≡ take at old ++ (map (register rs) (take (i + 1) ops) ++ drop (at + (i + 1)) old)
 write_more old rs ops at i ws d h room is =
     let v : Word = register rs (slice_index_or ops i 0) in
-    let front : List Word = take at old ++ map (register rs) (take i ops) in
-    let y : Word = slice_index_or old (at + i) d in
-    let there : at + i < length old = omega arith in
-    let seam : drop (at + i) old ≡ y ∷ drop (suc (at + i)) old = drop-cons old (at + i) d there in
-    let len : length front ≡ at + i =
-    length-append (take at old) (map (register rs) (take i ops))
-    ∙ (rw (length-take-le at old (omega arith), length-map (take i ops) (register rs), length-take-le i ops (omega arith)) refl) in
-    let parts : ws ≡ front ++ (y ∷ drop (suc (at + i)) old) =
-    is ∙ (ap (λ (l : List Word). take at old ++ (map (register rs) (take i ops) ++ l)) seam
-    ∙ sym (append_assoc (take at old) (map (register rs) (take i ops)) (y ∷ drop (suc (at + i)) old))) in
-    let set : slice_set ws (at + i) v ≡ front ++ (v ∷ drop (suc (at + i)) old) =
-    ap (λ (l : List Word). slice_set l (at + i) v) parts
-    ∙ subst (λ (x : ℕ). slice_set (front ++ (y ∷ drop (suc (at + i)) old)) x v
-    ≡ front ++ (v ∷ drop (suc (at + i)) old)) len (set-append_seam front y (drop (suc (at + i)) old) v) in
-    let more : map (register rs) (take (i + 1) ops) ≡ map (register rs) (take i ops) ++ (v ∷ []) =
+    let vs : List Word = map (register rs) (take i ops) in
+    let long : length vs ≡ i = length-map (take i ops) (register rs) ∙ length-take-le i ops (omega arith) in
+    let more : map (register rs) (take (i + 1) ops) ≡ vs ++ (v ∷ []) =
     ap (map (register rs)) (take_more ops i 0 h) ∙ map-append (register rs) (take i ops) (slice_index_or ops i 0 ∷ []) in
-    let next : suc (at + i) ≡ at + (i + 1) = omega arith in
-    set ∙ (append_assoc (take at old) (map (register rs) (take i ops)) (v ∷ drop (suc (at + i)) old)
-    ∙ ap (λ (l : List Word). take at old ++ l)
-    (sym (append_assoc (map (register rs) (take i ops)) (v ∷ []) (drop (suc (at + i)) old))
-    ∙ (rw (more, next) refl)))
+    ap (λ (l : List Word). slice_set l (at + i) v) is
+    ∙ (put_next old vs at i v d long (omega arith)
+    ∙ ap (λ (l : List Word). take at old ++ (l ++ drop (at + (i + 1)) old)) (sym more))
+
+-- so many words, the first ones, stand from a place on
+abbrev pub AreCopied : (old more : List Word) (at n : ℕ) (ws : List Word) → Type 0
+AreCopied old more at n ws = ws ≡ take at old ++ (take n more ++ drop (at + n) old)
+
+pub copied_none : (old more : List Word) (at : ℕ) → AreCopied old more at 0 old
+copied_none old more at =
+    let here : at + 0 ≡ at = omega arith in
+    sym (ap (λ (k : ℕ). take at old ++ drop k old) here ∙ take-append-drop at old)
+
+-- one more is copied
+pub copied_more : (old more : List Word) (at i : ℕ) (ws : List Word) (d : Word)
+    → i < length more → at + length more ≤ length old → AreCopied old more at i ws
+    → AreCopied old more at (i + 1) (slice_set ws (at + i) (slice_index_or more i d))
+copied_more old more at i ws d h room is =
+    let v : Word = slice_index_or more i d in
+    let long : length (take i more) ≡ i = length-take-le i more (omega arith) in
+    ap (λ (l : List Word). slice_set l (at + i) v) is
+    ∙ (put_next old (take i more) at i v d long (omega arith)
+    ∙ ap (λ (l : List Word). take at old ++ (l ++ drop (at + (i + 1)) old)) (sym (take_more more i d h)))
+
+pub copied_all : (old more : List Word) (at n : ℕ) (ws : List Word) → length more ≡ n → AreCopied old more at n ws
+    → ws ≡ take at old ++ (more ++ drop (at + length more) old)
+copied_all old more at n ws count is =
+    let same : take n more ≡ more = take_all n more (omega arith) in
+    is ∙ (ap (λ (l : List Word). take at old ++ (l ++ drop (at + n) old)) same
+    ∙ ap (λ (k : ℕ). take at old ++ (more ++ drop (at + k) old)) (sym count))
+
+-- what stands before, and the words that were copied
+pub copied_front : (old more : List Word) (at : ℕ) (ws : List Word) → at ≤ length old
+    → ws ≡ take at old ++ (more ++ drop (at + length more) old) → take (at + length more) ws ≡ take at old ++ more
+copied_front old more at ws room is =
+    let front : List Word = take at old ++ more in
+    let back : List Word = drop (at + length more) old in
+    let long : length front ≡ at + length more =
+    length-append (take at old) more ∙ (rw (length-take-le at old room) refl) in
+    let parts : ws ≡ front ++ back = is ∙ sym (append_assoc (take at old) more back) in
+    ap (take (at + length more)) parts
+    ∙ subst (λ (n : ℕ). take n (front ++ back) ≡ front) long (take-append_seam front back)
 
 -- what holds of each of a list holds at each place
 pub all_at : (P : Word → Type 0) (ws : List Word) (k : ℕ) (d : Word) → AllByRecursion P ws → k < length ws

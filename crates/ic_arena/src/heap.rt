@@ -124,6 +124,7 @@ impl Heap {
     }
 
     /// The arguments of the agent in a block.
+    #[inline(always)]
     pub fn get(&self, block: u32) -> &[Word]
         requires { block < self.now.count }
         ensures { result.now ≡ block_at self.now block }
@@ -149,10 +150,48 @@ impl Heap {
         ensures capacity { self.new.capacity ≡ self.old.capacity }
         ensures registers { vec_capacity registers.new ≡ vec_capacity registers.old }
     {
-        let arity = self.arity as usize;
-        let at = block as usize * arity;
-        push(registers, &self.words[at..at + arity]);
-        self.words[at] = Word {
+        push(registers, self.get(block));
+        self.give_back(block);
+    }
+
+    /// Takes the arguments of an agent out of its block into registers, after those that are filled, and frees the
+    /// block. Answers how many are filled then.
+    #[inline(always)]
+    pub fn take_into(&mut self, block: u32, registers: &mut [Word], filled: usize) -> usize
+        requires there { block < self.old.count }
+        requires used { ¬ ((first_word self.old block).tag ≡ FREE) }
+        requires room { filled + self.old.arity ≤ length registers.old }
+        ensures filled { result ≡ filled + self.old.arity }
+        ensures taken { take result registers.new
+            ≡ take filled registers.old ++ block_at self.old block }
+        ensures len { length registers.new ≡ length registers.old }
+        ensures freed { (s : ℕ) → Replaced
+            (block_piece (agent_word s block) (block_at self.old block)) []
+            (blocks_pieces s self.old) (blocks_pieces s self.new) }
+        ensures arity { self.new.arity ≡ self.old.arity }
+        ensures count { self.new.count ≡ self.old.count }
+        ensures words { length self.new.words ≡ length self.old.words }
+        ensures capacity { self.new.capacity ≡ self.old.capacity }
+    {
+        copy(registers, filled, self.get(block));
+        self.give_back(block);
+        filled + self.arity as usize
+    }
+
+    /// Marks the block of an agent as free.
+    #[inline(always)]
+    fn give_back(&mut self, block: u32)
+        requires there { block < self.old.count }
+        requires used { ¬ ((first_word self.old block).tag ≡ FREE) }
+        ensures freed { (s : ℕ) → Replaced
+            (block_piece (agent_word s block) (block_at self.old block)) []
+            (blocks_pieces s self.old) (blocks_pieces s self.new) }
+        ensures arity { self.new.arity ≡ self.old.arity }
+        ensures count { self.new.count ≡ self.old.count }
+        ensures len { length self.new.words ≡ length self.old.words }
+        ensures capacity { self.new.capacity ≡ self.old.capacity }
+    {
+        self.words[block as usize * self.arity as usize] = Word {
             tag: FREE,
             index: self.free,
         };
@@ -250,5 +289,42 @@ fn push_each(words: &mut Vec<Word>, more: &[Word])
 {
     for word in more {
         words.push_reserved(*word);
+    }
+}
+
+/// Copies words over those from a place on. Up to three are copied without a loop.
+#[inline(always)]
+fn copy(words: &mut [Word], at: usize, more: &[Word])
+    requires there { at + length more.now ≤ length words.old }
+    ensures copied { words.new ≡ take at words.old
+        ++ (more.now ++ drop (at + length more.now) words.old) }
+{
+    match more {
+        [only] => words[at] = *only,
+        [first, second] => {
+            words[at] = *first;
+            words[at + 1] = *second;
+        }
+        [first, second, third] => {
+            words[at] = *first;
+            words[at + 1] = *second;
+            words[at + 2] = *third;
+        }
+        _ => copy_each(words, at, more),
+    }
+}
+
+/// The same for any number of words.
+#[cold]
+#[inline(never)]
+fn copy_each(words: &mut [Word], at: usize, more: &[Word])
+    requires there { at + length more.now ≤ length words.old }
+    ensures copied { words.new ≡ take at words.old
+        ++ (more.now ++ drop (at + length more.now) words.old) }
+{
+    let mut place = at;
+    for word in more {
+        words[place] = *word;
+        place += 1;
     }
 }

@@ -7,7 +7,7 @@ use Rattle.ic_arena.specs.Tables.{Replaced, Blocks, block_at, block_piece, block
 use Rattle.ic_arena.specs.inner.Free.{AreFound, firsts}
 use Rattle.ic_arena.proofs.Found.{firsts_at, firsts_length, firsts_set, found_freed}
 use Rattle.ic_arena.proofs.HeapPieces.{block_freed, has_words}
-use Rattle.ic_arena.proofs.heap.Heap.take.Goals as goal
+use Rattle.ic_arena.proofs.heap.Heap.give_back.Goals as goal
 
 pub returns-clause-freed : goal.returns-clause-freed
 returns-clause-freed c = λ s.
