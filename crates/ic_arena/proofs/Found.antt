@@ -1,12 +1,13 @@
 -- Lemmas: free places are found, whatever is done with the others.
-use Rattle.std.proofs.Common.{◌≡◌, ℕ, zero, suc, ◌+◌, ◌*◌, ◌<◌, ◌≤◌, List, [], ◌∷◌, ◌++◌, length, take, drop, refl, ap, sym, ◌∙◌, subst, arith, slice_set, slice_index_or}
+use Rattle.std.proofs.Common.{◌≡◌, ℕ, zero, suc, ◌+◌, ◌-◌, ◌*◌, ◌<◌, ◌≤◌, List, [], ◌∷◌, ◌++◌, length, take, drop, refl, ap, sym, ◌∙◌, subst, arith, slice_set, slice_index_or}
 use Rattle.std.proofs.Math.Nat.{suc-mul, zero-mul}
 use Rattle.std.proofs.Math.Seq.{drop-append_seam, set-append_seam}
 use Rattle.std.proofs.lemmas.List.{get_or-set_same, get_or-set_other, length-set, length-drop, drop-append-le, drop-drop, append-nil}
 use Rattle.ic_arena.specs.declared.word.Word.{Word}
-use Rattle.ic_arena.specs.declared.word.TheConstants.{FREE, IDLE}
+use Rattle.ic_arena.specs.declared.word.TheConstants.{FREE, IDLE, NONE}
 use Rattle.ic_arena.specs.Tables.{entry}
-use Rattle.ic_arena.specs.inner.Free.{AreUsed, AreFound, firsts}
+use Rattle.ic_arena.specs.inner.Free.{AreUsed, AreFound, AreHeld, firsts}
+use Rattle.ic_arena.proofs.Front.{front_below, front_read, front_set}
 use Rattle.ic_arena.proofs.HeapPieces.{block_first, in_three, length_before, length_block}
 
 -- a place that is written twice, and two places that are written
@@ -42,7 +43,7 @@ used_at (x ∷ ws) (suc i) all h = used_at ws i all.1 (omega arith)
 -- a place that isn't free is written with what isn't a mark
 pub found_set : (n : ℕ) (ws : List Word) (at i : ℕ) (w : Word) → i < length ws
     → ¬ ((entry ws i).tag ≡ FREE) → ¬ (w.tag ≡ FREE) → AreFound n ws at → AreFound n (slice_set ws i w) at
-found_set zero ws at i w there used h found = used_set ws i w h found
+found_set zero ws at i w there used h found = (found.0, used_set ws i w h found.1)
 found_set (suc n) ws at i w there used h found =
     let mark : Word = record { tag = IDLE; index = 0 } in
     let apart : at ≡ i → ⊥ = λ e. used (subst (λ (k : ℕ). (entry ws k).tag ≡ FREE) e found.1) in
@@ -90,28 +91,69 @@ found_freed n ws at i there used found =
     )
 
 -- where none is found, none is free
-pub found_none : (n : ℕ) (ws : List Word) (at : ℕ) → (at < length ws → ¬ ((entry ws at).tag ≡ FREE))
-    → AreFound n ws at → AreUsed ws
-found_none zero ws at h found = found
-found_none (suc n) ws at h found = absurd (h found.0 found.1)
+pub found_none : (n : ℕ) (ws : List Word) (at : ℕ) → at ≡ NONE → length ws ≤ NONE → AreFound n ws at → AreUsed ws
+found_none zero ws at none few found = found.1
+found_none (suc n) ws at none few found = let there : at < length ws = found.0 in absurd (omega arith)
 
 -- where one is found, some are free
-pub found_some : (n : ℕ) (ws : List Word) (at : ℕ) → at < length ws → (entry ws at).tag ≡ FREE → AreFound n ws at
+pub found_some : (n : ℕ) (ws : List Word) (at : ℕ) → ¬ (at ≡ NONE) → AreFound n ws at
     → (k : ℕ) × AreFound (suc k) ws at
-found_some zero ws at there free found = absurd (used_at ws at found there free)
-found_some (suc k) ws at there free found = (k, found)
+found_some zero ws at some found = absurd (some found.0)
+found_some (suc k) ws at some found = (k, found)
 
--- so at least one is
-pub found_one : (n : ℕ) (ws : List Word) (at : ℕ) → at < length ws → (entry ws at).tag ≡ FREE → AreFound n ws at
-    → (k : ℕ) × (n ≡ suc k) × AreFound (suc k) ws at
-found_one zero ws at there free found = absurd (used_at ws at found there free)
-found_one (suc k) ws at there free found = (k, refl, found)
+-- ---- entries of names
 
--- and where none is found, none is counted
-pub found_zero : (n : ℕ) (ws : List Word) (at : ℕ) → (at < length ws → ¬ ((entry ws at).tag ≡ FREE))
-    → AreFound n ws at → n ≡ 0
-found_zero zero ws at h found = refl
-found_zero (suc n) ws at h found = absurd (h found.0 found.1)
+-- one that isn't free is written with what isn't a mark
+pub held_set : (n free : ℕ) (ws : List Word) (at i : ℕ) (w : Word) → AreHeld n free ws at → i < length (take n ws)
+    → ¬ ((entry (take n ws) i).tag ≡ FREE) → ¬ (w.tag ≡ FREE) → AreHeld n free (slice_set ws i w) at
+held_set n free ws at i w held there used h =
+    let long : length (slice_set ws i w) ≡ length ws = length-set ws i w in
+    let all : n ≤ length ws = held.there in
+    record {
+      there = omega arith;
+      found = subst (λ (l : List Word). AreFound free l at) (sym (front_set n i ws w (front_below n i ws there)))
+          (found_set free (take n ws) at i w there used h held.found);
+    }
+
+-- one is freed
+pub held_freed : (n free : ℕ) (ws : List Word) (at i : ℕ) → AreHeld n free ws at → i < length (take n ws)
+    → ¬ ((entry (take n ws) i).tag ≡ FREE)
+    → AreHeld n (free + 1) (slice_set ws i (record { tag = FREE; index = at })) i
+held_freed n free ws at i held there used =
+    let mark : Word = record { tag = FREE; index = at } in
+    let long : length (slice_set ws i mark) ≡ length ws = length-set ws i mark in
+    let all : n ≤ length ws = held.there in
+    let one : suc free ≡ free + 1 = omega arith in
+    record {
+      there = omega arith;
+      found = subst (λ (l : List Word). AreFound (free + 1) l i) (sym (front_set n i ws mark (front_below n i ws there)))
+          (subst (λ (m : ℕ). AreFound m (slice_set (take n ws) i mark) i) one
+          (found_freed free (take n ws) at i there used held.found));
+    }
+
+-- the one that is found is there, and free
+pub held_some : (n free : ℕ) (ws : List Word) (at : ℕ) → AreHeld n free ws at → ¬ (free ≡ 0)
+    → AreFound (suc (free - 1)) (take n ws) at
+held_some n free ws at held some =
+    let more : free ≡ suc (free - 1) = omega arith in
+    subst (λ (m : ℕ). AreFound m (take n ws) at) more held.found
+
+-- it is used
+pub held_used : (n free : ℕ) (ws : List Word) (at : ℕ) (w d : Word) → ¬ (w.tag ≡ FREE) → AreHeld n free ws at
+    → ¬ (free ≡ 0) → AreHeld n (free - 1) (slice_set ws at w) (slice_index_or ws at d).index
+held_used n free ws at w d h held some =
+    let found : AreFound (suc (free - 1)) (take n ws) at = held_some n free ws at held some in
+    let there : at < n = front_below n at ws found.0 in
+    let long : length (slice_set ws at w) ≡ length ws = length-set ws at w in
+    let all : n ≤ length ws = held.there in
+    let next : entry (take n ws) at ≡ slice_index_or ws at d =
+    front_read n at ws (record { tag = FREE; index = 0 }) d all there in
+    record {
+      there = omega arith;
+      found = subst (λ (l : List Word). AreFound (free - 1) l (slice_index_or ws at d).index) (sym (front_set n at ws w there))
+          (subst (λ (v : Word). AreFound (free - 1) (slice_set (take n ws) at w) v.index) next
+          (found_used (free - 1) (take n ws) at w h found));
+    }
 
 -- ---- first words of blocks
 

@@ -77,7 +77,7 @@ one_longer p xs ys r =
 
 -- names in use, and those that are found free, are all
 pub used_and_found : (n : ℕ) (ws : List Word) (at : ℕ) → AreFound n ws at → length (names_pieces 0 ws) + n ≡ length ws
-used_and_found zero ws at found = let full = names_full 0 ws found in omega arith
+used_and_found zero ws at found = let full = names_full 0 ws found.1 in omega arith
 used_and_found (suc n) ws at found =
     let mark : Word = record { tag = IDLE; index = 0 } in
     let set : List Word = slice_set ws at mark in

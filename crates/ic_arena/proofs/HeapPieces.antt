@@ -107,6 +107,10 @@ length_block k j m ws h =
     let less : k ≤ length (drop (j * k) ws) = rw (length-drop (j * k) ws) (omega arith) in
     length-take-le k (drop (j * k) ws) less
 
+-- the words of a block are within those of all
+pub block_within : (k j m n : ℕ) → n ≡ j + suc m → j * k + k ≤ n * k
+block_within k j m n e = rw e (omega arith)
+
 -- a block has as many words as the arity
 pub block_long : (b : Blocks) (i : ℕ) → length b.words ≡ b.count * b.arity → i < b.count
     → length (block_at b i) ≡ b.arity

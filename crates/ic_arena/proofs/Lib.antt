@@ -2,3 +2,5 @@ pub mod NamesPieces
 pub mod HeapPieces
 pub mod Found
 pub mod Full
+pub mod Front
+pub mod HeapPut

@@ -6,7 +6,8 @@ ghost use Rattle.ic_arena.specs.Word.{agent_word};
 ghost use Rattle.ic_arena.specs.Piece.{agent_of, room};
 ghost use Rattle.ic_arena.specs.Tables.{Replaced, AreBlocks, blocks_pieces, block_at, block_piece, first_word, register};
 
-use crate::word::{FREE, IDLE, Word};
+use crate::spare::grow;
+use crate::word::{FREE, IDLE, NONE, Word};
 use std::alloc::{AllocError, Global};
 use std::marker::Model;
 
@@ -14,15 +15,16 @@ use std::marker::Model;
 /// where its first word has the mark for it.
 #[derive(Drop)]
 pub struct Heap {
+    /// Those of the blocks, and behind them as many as there is memory for.
     words: Vec<Word>,
     arity: u32,
     count: u32,
-    /// The block that was freed last, if one is free. Its first word tells the one that was freed before.
+    /// The block that was freed last, or none. Its first word tells the one that was freed before.
     free: u32,
 }
 
 impl Model for Heap {
-    ghost use Rattle.std.specs.Prelude.{vec_capacity};
+    ghost use Rattle.std.specs.Prelude.{◌*◌, length, take};
     ghost use Rattle.ic_arena.specs.Tables.{Blocks};
     ghost use Rattle.ic_arena.specs.inner.Free.{AreKept};
 
@@ -31,16 +33,16 @@ impl Model for Heap {
     ghost view = { λ h. record {
       arity = h.arity;
       count = h.count;
-      words = h.words.items;
-      capacity = vec_capacity h.words;
+      words = take (h.count * h.arity) h.words.items;
+      capacity = length h.words.items;
     } };
 
     ghost invariant = { λ h. AreKept
         (record {
           arity = h.arity;
           count = h.count;
-          words = h.words.items;
-          capacity = vec_capacity h.words;
+          words = take (h.count * h.arity) h.words.items;
+          capacity = length h.words.items;
         }) h.free };
 }
 
@@ -55,7 +57,7 @@ impl Heap {
             words: Vec::new(alloc),
             arity,
             count: 0,
-            free: 0,
+            free: NONE,
         }
     }
 
@@ -83,7 +85,8 @@ impl Heap {
         ensures capacity { self.old.capacity ≤ self.new.capacity }
         ensures room { OnOk result (length self.old.words + more ≤ self.new.capacity) }
     {
-        self.words.reserve(more)
+        let used = self.count as usize * self.arity as usize;
+        grow(&mut self.words, used, more)
     }
 
     /// Puts an agent, whose arguments are in these registers, into a free block: the one that was freed last, or one
@@ -108,18 +111,19 @@ impl Heap {
             ≡ max self.old.count (length (blocks_pieces s self.new)) }
         ensures capacity { self.new.capacity ≡ self.old.capacity }
     {
-        if self.free < self.count {
-            let block = self.free;
-            let at = block as usize * self.arity as usize;
-            if self.words[at].tag == FREE {
-                self.free = self.words[at].index;
-                write(&mut self.words, at, operands, registers);
-                return block;
-            }
+        let mut block = self.free;
+        if block == NONE {
+            block = self.count;
+            self.count += 1;
+        } else {
+            self.free = self.words[block as usize * self.arity as usize].index;
         }
-        let block = self.count;
-        append(&mut self.words, operands, registers);
-        self.count += 1;
+        write(
+            &mut self.words,
+            block as usize * self.arity as usize,
+            operands,
+            registers,
+        );
         block
     }
 
@@ -207,7 +211,6 @@ fn write(words: &mut Vec<Word>, at: usize, operands: &[u32], registers: &[Word])
     ensures written { words.new.items ≡ take at words.old.items
         ++ (map (register registers.now) operands.now
         ++ drop (at + length operands.now) words.old.items) }
-    ensures capacity { vec_capacity words.new ≡ vec_capacity words.old }
 {
     match operands {
         [only] => words[at] = registers[*only as usize],
@@ -233,27 +236,11 @@ fn write_each(words: &mut Vec<Word>, at: usize, operands: &[u32], registers: &[W
     ensures written { words.new.items ≡ take at words.old.items
         ++ (map (register registers.now) operands.now
         ++ drop (at + length operands.now) words.old.items) }
-    ensures capacity { vec_capacity words.new ≡ vec_capacity words.old }
 {
     let mut place = at;
     for operand in operands {
         words[place] = registers[*operand as usize];
         place += 1;
-    }
-}
-
-/// Appends the words of registers, for which there is memory.
-#[cold]
-#[inline(never)]
-fn append(words: &mut Vec<Word>, operands: &[u32], registers: &[Word])
-    requires room { vec_len words.old + length operands.now ≤ vec_capacity words.old }
-    requires filled { AllByRecursion (λ k. k < length registers.now) operands.now }
-    ensures appended { words.new.items
-        ≡ words.old.items ++ map (register registers.now) operands.now }
-    ensures capacity { vec_capacity words.new ≡ vec_capacity words.old }
-{
-    for operand in operands {
-        words.push_reserved(registers[*operand as usize]);
     }
 }
 

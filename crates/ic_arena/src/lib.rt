@@ -6,6 +6,7 @@
 
 mod heap;
 mod names;
+mod spare;
 mod word;
 
 pub use heap::Heap;

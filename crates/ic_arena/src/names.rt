@@ -5,14 +5,18 @@ ghost use Rattle.ic_arena.specs.Word.{name_word};
 ghost use Rattle.ic_arena.specs.Piece.{idle, waits};
 ghost use Rattle.ic_arena.specs.Tables.{Replaced, names_pieces, entry};
 
-use crate::word::{FREE, IDLE, Word};
+use crate::spare::grow;
+use crate::word::{FREE, IDLE, NONE, Word};
 use std::alloc::{AllocError, Global};
 use std::marker::Model;
 
 /// For each name the word that waits for its other occurrence, or the mark that none does, or that the name is free.
 #[derive(Drop)]
 pub struct Names {
+    /// Those of the names, and behind them as many as there is memory for.
     entries: Vec<Word>,
+    /// How many names there are.
+    count: usize,
     /// The name that was freed last, if one is free. What it holds tells the one that was freed before.
     free: u32,
     /// How many names are free.
@@ -20,15 +24,18 @@ pub struct Names {
 }
 
 impl Model for Names {
-    ghost use Rattle.std.specs.Prelude.{vec_capacity};
+    ghost use Rattle.std.specs.Prelude.{length, take};
     ghost use Rattle.ic_arena.specs.Tables.{Entries};
-    ghost use Rattle.ic_arena.specs.inner.Free.{AreFound};
+    ghost use Rattle.ic_arena.specs.inner.Free.{AreHeld};
 
     ghost Value = { Entries };
 
-    ghost view = { λ n. record { entries = n.entries.items; capacity = vec_capacity n.entries } };
+    ghost view = { λ n. record {
+      entries = take n.count n.entries.items;
+      capacity = length n.entries.items;
+    } };
 
-    ghost invariant = { λ n. AreFound n.unused n.entries.items n.free };
+    ghost invariant = { λ n. AreHeld n.count n.unused n.entries.items n.free };
 }
 
 impl Names {
@@ -38,7 +45,8 @@ impl Names {
     {
         Names {
             entries: Vec::new(alloc),
-            free: 0,
+            count: 0,
+            free: NONE,
             unused: 0,
         }
     }
@@ -47,14 +55,14 @@ impl Names {
     pub fn len(&self) -> usize
         ensures { result ≡ length self.now.entries }
     {
-        self.entries.len()
+        self.count
     }
 
     /// How many names are in use: those for which a word waits, or nothing does.
     pub fn used(&self) -> usize
         ensures { result ≡ length (names_pieces 0 self.now.entries) }
     {
-        self.entries.len() - self.unused
+        self.count - self.unused
     }
 
     /// Takes the memory for so many names more.
@@ -63,7 +71,7 @@ impl Names {
         ensures capacity { self.old.capacity ≤ self.new.capacity }
         ensures room { OnOk result (length self.old.entries + more ≤ self.new.capacity) }
     {
-        self.entries.reserve(more)
+        grow(&mut self.entries, self.count, more)
     }
 
     /// A name that was free, for which nothing waits: the one that was freed last, or one after the last.
@@ -82,16 +90,16 @@ impl Names {
             tag: IDLE,
             index: 0,
         };
-        let last = self.free as usize;
-        if last < self.entries.len() && self.entries[last].tag == FREE {
-            let name = self.free;
-            self.free = self.entries[last].index;
-            self.unused -= 1;
-            self.entries[last] = mark;
+        if self.unused == 0 {
+            let name = self.count as u32;
+            self.entries[self.count] = mark;
+            self.count += 1;
             return name;
         }
-        let name = self.entries.len() as u32;
-        self.entries.push_reserved(mark);
+        let name = self.free;
+        self.free = self.entries[name as usize].index;
+        self.unused -= 1;
+        self.entries[name as usize] = mark;
         name
     }
 

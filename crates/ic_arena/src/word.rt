@@ -15,6 +15,9 @@ pub const IDLE: u32 = 0xffff_fffe;
 /// The mark of a place that is free. No term begins with it.
 pub const FREE: u32 = 0xffff_ffff;
 
+/// No place: the list of free places ends.
+pub(crate) const NONE: u32 = 0xffff_ffff;
+
 /// What a term begins with: a name, or an agent with the place of its arguments. An agent without arguments has none.
 #[derive(Clone, Copy)]
 pub struct Word {

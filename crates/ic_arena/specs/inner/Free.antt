@@ -1,8 +1,8 @@
 -- How places that are free are found again.
-use Rattle.std.specs.Prelude.{◌≡◌, ℕ, zero, suc, ◌<◌, List, [], ◌∷◌, drop, length, slice_set, slice_index_or}
+use Rattle.std.specs.Prelude.{◌≡◌, ℕ, zero, suc, ◌<◌, ◌≤◌, List, [], ◌∷◌, take, drop, length, slice_set, slice_index_or}
 use Rattle.std.specs.List.{AllByRecursion}
 use Rattle.ic_arena.specs.declared.word.Word.{Word}
-use Rattle.ic_arena.specs.declared.word.TheConstants.{IDLE, FREE}
+use Rattle.ic_arena.specs.declared.word.TheConstants.{IDLE, FREE, NONE}
 use Rattle.ic_arena.specs.Word.{name_word}
 use Rattle.ic_arena.specs.Tables.{Blocks, AreBlocks, entry}
 
@@ -10,9 +10,10 @@ use Rattle.ic_arena.specs.Tables.{Blocks, AreBlocks, entry}
 abbrev pub AreUsed : List Word → Type 0
 AreUsed ws = AllByRecursion (λ w. ¬ (w.tag ≡ FREE)) ws
 
--- So many of these words are marks of free places. The first is at this place, and each tells the place of the next.
+-- So many of these words are marks of free places. The first is at this place, each tells the place of the next, and the
+-- last tells that there is no next.
 abbrev pub AreFound : ℕ → List Word → ℕ → Type 0
-AreFound zero ws at = AreUsed ws
+AreFound zero ws at = (at ≡ NONE) × AreUsed ws
 AreFound (suc n) ws at = (at < length ws) × ((entry ws at).tag ≡ FREE)
     × AreFound n (slice_set ws at (record { tag = IDLE; index = 0 })) (entry ws at).index
 
@@ -26,3 +27,8 @@ pub record AreKept (b : Blocks) (at : ℕ) : Type 0 where
   pub blocks : AreBlocks b
   pub free : ℕ
   pub found : AreFound free (firsts b.arity b.count b.words) at
+
+-- So many of these words are the entries of names, so many of those are free, and each is found, the first at this place.
+pub record AreHeld (count free : ℕ) (words : List Word) (at : ℕ) : Type 0 where
+  pub there : count ≤ length words
+  pub found : AreFound free (take count words) at

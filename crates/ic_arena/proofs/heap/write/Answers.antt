@@ -25,33 +25,37 @@ writes_all old rs ops at n ws count is =
     is ∙ (ap (λ (l : List ℕ). take at old ++ (map (register rs) l ++ drop (at + n) old)) same
     ∙ ap (λ (k : ℕ). take at old ++ (map (register rs) ops ++ drop (at + k) old)) (sym count))
 
-pub returns-in-len1-clause-written : goal.returns-in-len1-clause-written
-returns-in-len1-clause-written c =
+pub returns-in-len1 : goal.returns-in-len1
+returns-in-len1 c =
     let old = c.args.words.now.items in
     let rs = c.args.registers.now in
     let ops = c.args.operands.now in
     let room : c.args.at + length ops ≤ length old = omega (arith, c.args.words.now.ok, c.requires.there) in
     let count : length ops ≡ 1 = omega (arith, c.in-len1.len_at_least, c.in-len1.len_below) in
-    writes_all old rs ops c.args.at 1 _ count (writes_one old rs ops c.args.at (omega arith) room)
+    record { written = writes_all old rs ops c.args.at 1 _ count (writes_one old rs ops c.args.at (omega arith) room) }
 
-pub returns-in-len2-clause-written : goal.returns-in-len2-clause-written
-returns-in-len2-clause-written c =
+pub returns-in-len2 : goal.returns-in-len2
+returns-in-len2 c =
     let old = c.args.words.now.items in
     let rs = c.args.registers.now in
     let ops = c.args.operands.now in
     let room : c.args.at + length ops ≤ length old = omega (arith, c.args.words.now.ok, c.requires.there) in
     let count : length ops ≡ 2 = omega (arith, c.in-len2.len_at_least, c.in-len2.len_below) in
-    writes_all old rs ops c.args.at 2 _ count
-    (write_more old rs ops c.args.at 1 _ (name_word 0) (omega arith) room (writes_one old rs ops c.args.at (omega arith) room))
+    record {
+      written = writes_all old rs ops c.args.at 2 _ count
+          (write_more old rs ops c.args.at 1 _ (name_word 0) (omega arith) room (writes_one old rs ops c.args.at (omega arith) room));
+    }
 
-pub returns-in-len3-clause-written : goal.returns-in-len3-clause-written
-returns-in-len3-clause-written c =
+pub returns-in-len3 : goal.returns-in-len3
+returns-in-len3 c =
     let old = c.args.words.now.items in
     let rs = c.args.registers.now in
     let ops = c.args.operands.now in
     let room : c.args.at + length ops ≤ length old = omega (arith, c.args.words.now.ok, c.requires.there) in
     let count : length ops ≡ 3 = omega (arith, c.in-len3.len_at_least, c.in-len3.len_below) in
-    writes_all old rs ops c.args.at 3 _ count
-    (write_more old rs ops c.args.at 2 _ (name_word 0) (omega arith) room
-    (write_more old rs ops c.args.at 1 _ (name_word 0) (omega arith) room
-    (writes_one old rs ops c.args.at (omega arith) room)))
+    record {
+      written = writes_all old rs ops c.args.at 3 _ count
+          (write_more old rs ops c.args.at 2 _ (name_word 0) (omega arith) room
+          (write_more old rs ops c.args.at 1 _ (name_word 0) (omega arith) room
+          (writes_one old rs ops c.args.at (omega arith) room)));
+    }

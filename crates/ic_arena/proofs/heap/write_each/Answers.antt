@@ -19,5 +19,4 @@ loop-operand-preserved c =
           (write_more old rs ops c.args.at i c.loop-operand.words.items (name_word 0) c.loop-operand-test.true room
           c.loop-operand.invariant.written);
       len = c.loop-operand.invariant.len;
-      capacity = c.loop-operand.invariant.capacity;
     }

@@ -1,4 +1,4 @@
-use Rattle.std.proofs.Common.{◌≡◌, ◌+◌, ◌++◌, map, take, drop, vec_capacity, vec_len}
+use Rattle.std.proofs.Common.{◌≡◌, ◌+◌, ◌++◌, map, take, drop, vec_len}
 use Rattle.ic_arena.specs.Tables.{register}
 use Rattle.ic_arena.proofs.heap.write_each.Given as goal
 
@@ -9,5 +9,4 @@ invariant-loop-operand l = record {
       ++ (map (register l.registers) (take l.operand-index l.operands)
       ++ drop (l.at + l.operand-index) l.initial.words.items);
   len : vec_len l.words ≡ vec_len l.initial.words;
-  capacity : vec_capacity l.words ≡ vec_capacity l.initial.words;
 }
