@@ -9,9 +9,9 @@ use Rattle.ic_arena.specs.Piece.{Piece, agent_of, room}
 use Rattle.ic_arena.specs.Tables.{Replaced, Blocks, blocks_from, blocks_pieces, entry, first_word}
 use Rattle.ic_arena.specs.inner.Free.{AreFound, AreKept, AreUsed, firsts}
 use Rattle.ic_arena.proofs.Found.{firsts_at, firsts_end, firsts_length, firsts_put, found_none, found_some, found_used, used_end}
-use Rattle.ic_arena.proofs.Front.{written_length}
+use Rattle.ic_arena.proofs.Front.{front_all, front_read, front_written, written_length}
 use Rattle.ic_arena.proofs.Full.{as_before, as_used, blocks_few, blocks_full}
-use Rattle.ic_arena.proofs.HeapPieces.{block_within, put_again, put_after, free_room, room_after}
+use Rattle.ic_arena.proofs.HeapPieces.{block_within, copied_front, put_again, put_after, free_room, room_after}
 
 -- an agent of these words is put into a block, and the next free one is at this place then
 pub record IsPut (old : Blocks) (vs : List Word) (block next : ℕ) (new : Blocks) : Type 0 where
@@ -20,20 +20,6 @@ pub record IsPut (old : Blocks) (vs : List Word) (block next : ℕ) (new : Block
   pub fresh : (s : ℕ) → sum_by (room (agent_word s block)) (blocks_pieces s old) ≡ 0
   pub count : (s : ℕ) → new.count ≡ max old.count (length (blocks_pieces s new))
   pub capacity : new.capacity ≡ old.capacity
-
--- the same, said of equal blocks
-pub put_as : (old new : Blocks) (vs ws : List Word) (block block' next next' k n room : ℕ) → block ≡ block'
-    → next ≡ next' → new.arity ≡ k → new.count ≡ n → new.words ≡ ws → new.capacity ≡ room
-    → IsPut old vs block next new
-    → IsPut old vs block' next' (record { arity = k; count = n; words = ws; capacity = room })
-put_as old new vs ws block block' next next' k n room b f a c w r put =
-    subst (λ (x : ℕ). IsPut old vs x next' (record { arity = k; count = n; words = ws; capacity = room })) b
-    (subst (λ (x : ℕ). IsPut old vs block x (record { arity = k; count = n; words = ws; capacity = room })) f
-    (subst (λ (x : ℕ). IsPut old vs block next (record { arity = x; count = n; words = ws; capacity = room })) a
-    (subst (λ (x : ℕ). IsPut old vs block next (record { arity = new.arity; count = x; words = ws; capacity = room })) c
-    (subst (λ (x : List Word). IsPut old vs block next (record { arity = new.arity; count = new.count; words = x; capacity = room })) w
-    (subst (λ (x : ℕ). IsPut old vs block next (record { arity = new.arity; count = new.count; words = new.words; capacity = x })) r
-    put)))))
 
 -- the block that is found is there
 pub found_there : (b : Blocks) (at : ℕ) → AreKept b at → ¬ (at ≡ NONE) → at < b.count
@@ -122,3 +108,58 @@ put_last b at (v ∷ vs) kept none few some long words =
           as_used n (n + 1) (length (pieces s)) (sym full) (omega arith));
       capacity = refl;
     }
+
+-- ---- in the list, which has as many words as there is memory for
+
+-- blocks of k words, and the list in which they are held
+abbrev pub held : (k n : ℕ) → List Word → Blocks
+held k n ws = record { arity = k; count = n; words = take (n * k) ws; capacity = length ws }
+
+-- these words are written from a place on
+abbrev pub Written : (new vs : List Word) (at n : ℕ) (ws : List Word) → Type 0
+Written new vs at n ws = new ≡ take at ws ++ (vs ++ drop (at + n) ws)
+
+put_as : (old : Blocks) (vs xs ys : List Word) (block next k n room size : ℕ) → xs ≡ ys → room ≡ size
+    → IsPut old vs block next (record { arity = k; count = n; words = xs; capacity = room })
+    → IsPut old vs block next (record { arity = k; count = n; words = ys; capacity = size })
+put_as old vs xs ys block next k n room size e f put =
+    subst (λ (m : ℕ). IsPut old vs block next (record { arity = k; count = n; words = ys; capacity = m })) f
+    (subst (λ (l : List Word). IsPut old vs block next (record { arity = k; count = n; words = l; capacity = room })) e put)
+
+-- the block that is found lies within the list
+pub found_within : (k n at : ℕ) (ws : List Word) → AreKept (held k n ws) at → ¬ (at ≡ NONE) → at * k + k ≤ n * k
+found_within k n at ws kept is =
+    let below : at < n = found_there (held k n ws) at kept is in
+    let e : n ≡ at + suc (n - suc at) = omega arith in
+    block_within k at (n - suc at) n e
+
+-- the words are written into the block that is found
+pub write_found : (k n at : ℕ) (ws vs new : List Word) (d : Word) → AreKept (held k n ws) at → ¬ (at ≡ NONE) → 1 ≤ k
+    → length vs ≡ k → AllByRecursion (λ w. w.tag < IDLE) vs → Written new vs (at * k) (length vs) ws
+    → IsPut (held k n ws) vs at (slice_index_or ws (at * k) d).index (held k n new)
+write_found k n at ws vs new d kept is some long words written =
+    let within : at * k + k ≤ n * k = found_within k n at ws kept is in
+    let all : n * k ≤ length ws = front_all (n * k) ws kept.blocks.whole in
+    let used : List Word = take (n * k) ws in
+    let front : take (n * k) new ≡ take (at * k) used ++ (vs ++ drop (at * k + k) used) =
+    ap (take (n * k)) written
+    ∙ (front_written (n * k) (at * k) ws vs all (omega arith)
+    ∙ ap (λ (m : ℕ). take (at * k) used ++ (vs ++ drop (at * k + m) used)) long) in
+    let size : length new ≡ length ws = ap length written ∙ written_length (at * k) ws vs (omega arith) in
+    let first : slice_index_or used (at * k) (name_word 0) ≡ slice_index_or ws (at * k) d =
+    front_read (n * k) (at * k) ws (name_word 0) d all (omega arith) in
+    subst (λ (w : Word). IsPut (held k n ws) vs at w.index (held k n new)) first
+    (put_as (held k n ws) vs _ (take (n * k) new) at _ k n (length ws) (length new) (sym front) (sym size)
+    (put_found (held k n ws) at vs kept is some long words))
+
+-- the words are written after the last block
+pub write_last : (k n at : ℕ) (ws vs new : List Word) → AreKept (held k n ws) at → at ≡ NONE → n ≤ NONE → 1 ≤ k
+    → n * k + k ≤ length ws → length vs ≡ k → AllByRecursion (λ w. w.tag < IDLE) vs
+    → Written new vs (n * k) (length vs) ws → IsPut (held k n ws) vs n at (held k (n + 1) new)
+write_last k n at ws vs new kept none few some room long words written =
+    let next : (n + 1) * k ≡ n * k + length vs = omega arith in
+    let front : take ((n + 1) * k) new ≡ take (n * k) ws ++ vs =
+    ap (λ (m : ℕ). take m new) next ∙ copied_front ws vs (n * k) new (omega arith) written in
+    let size : length new ≡ length ws = ap length written ∙ written_length (n * k) ws vs (omega arith) in
+    put_as (held k n ws) vs _ (take ((n + 1) * k) new) n at k (n + 1) (length ws) (length new) (sym front) (sym size)
+    (put_last (held k n ws) at vs kept none few some long words)

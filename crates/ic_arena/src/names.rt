@@ -90,6 +90,7 @@ impl Names {
             tag: IDLE,
             index: 0,
         };
+        // The last name that there may be has the number of no place, so the free ones are counted.
         if self.unused == 0 {
             let name = self.count as u32;
             self.entries[self.count] = mark;
