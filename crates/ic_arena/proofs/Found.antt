@@ -35,11 +35,6 @@ pub used_end : (ws : List Word) (w : Word) → ¬ (w.tag ≡ FREE) → AreUsed w
 used_end [] w h all = (h, tt)
 used_end (x ∷ ws) w h all = (all.0, used_end ws w h all.1)
 
-pub used_at : (ws : List Word) (i : ℕ) → AreUsed ws → i < length ws → ¬ ((entry ws i).tag ≡ FREE)
-used_at [] i all h = absurd (omega arith)
-used_at (x ∷ ws) zero all h = all.0
-used_at (x ∷ ws) (suc i) all h = used_at ws i all.1 (omega arith)
-
 -- a place that isn't free is written with what isn't a mark
 pub found_set : (n : ℕ) (ws : List Word) (at i : ℕ) (w : Word) → i < length ws
     → ¬ ((entry ws i).tag ≡ FREE) → ¬ (w.tag ≡ FREE) → AreFound n ws at → AreFound n (slice_set ws i w) at
