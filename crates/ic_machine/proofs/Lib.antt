@@ -7,6 +7,7 @@ pub mod Fresh
 pub mod Making
 pub mod Firings
 pub mod Spare
+pub mod Needs
 pub mod Numbers
 pub mod PairIndexLemmas
 pub mod Running
@@ -22,6 +23,7 @@ pub mod PlaceLaws
 pub mod Growth
 pub mod Equations
 pub mod Trees
+pub mod Each
 pub mod Ends
 pub mod Unpacked
 pub mod Putting
@@ -45,3 +47,4 @@ pub mod Takings
 pub mod Advancing
 pub mod Heads
 pub mod Built
+pub mod Registers

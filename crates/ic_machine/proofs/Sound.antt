@@ -1,12 +1,13 @@
 -- What a machine keeps, where its parts change.
-use Rattle.std.proofs.Common.{◌≡◌, ℕ, zero, suc, ◌+◌, ◌^◌, ◌<◌, ◌≤◌, ◌==◌, List, [], ◌∷◌, ◌++◌, Bool, true, false, cond, count_by, slice_index_or, length, map, take, refl, ap, sym, subst, ◌∙◌, append_assoc, add-zero, arith}
+use Rattle.std.proofs.Common.{◌≡◌, ℕ, zero, suc, ◌+◌, ◌^◌, ◌<◌, ◌≤◌, ◌==◌, List, [], ◌∷◌, ◌++◌, Bool, true, false, cond, count_by, slice_index_or, length, map, min, take, refl, ap, sym, subst, ◌∙◌, append_assoc, add-zero, arith}
 use Rattle.std.specs.Global.{Vec}
 use Rattle.std.specs.List.{AllByRecursion}
 use Rattle.std.specs.List.Sorted.{IsPermutation}
 use Rattle.std.proofs.Math.Seq.{take-append_seam, take-length}
-use Rattle.std.proofs.lemmas.List.{map-append}
+use Rattle.std.proofs.lemmas.List.{length-take, map-append}
 use Rattle.std.proofs.lemmas.List.FromFn.{length-map-range_with_len}
 use Rattle.std.proofs.lemmas.List.Sorted.{IsPermutation-middle, IsPermutation-sym}
+use Rattle.std.proofs.lemmas.List.Sums.{count_by-le-length}
 use Rattle.ic_arena.specs.declared.word.Word.{Word}
 use Rattle.ic_arena.specs.Word.{agent_word}
 use Rattle.ic_arena.specs.Piece.{Piece}
@@ -133,20 +134,16 @@ first_of n m rs more same is =
     rw (same, is) (subst (λ (k : ℕ). take k (constants n ++ more) ≡ constants n) len
     (take-append_seam (constants n) more))
 
--- no plan has fired more often than all, where one has fired once more
-pub counts_within : (i n : ℕ) (old new : List ℕ) → AllByRecursion (λ k. k ≤ n) old → Counted (i ∷ []) old new
-    → AllByRecursion (λ k. k ≤ n + 1) new
-counts_within i n old new h c = all_at (λ k. k ≤ n + 1) new (λ j lt.
+-- no plan has fired more often than all, where some have fired
+pub counts_all : (is : List ℕ) (n : ℕ) (old new : List ℕ) → AllByRecursion (λ k. k ≤ n) old → Counted is old new
+    → AllByRecursion (λ k. k ≤ n + length is) new
+counts_all is n old new h c = all_at (λ k. k ≤ n + length is) new (λ j lt.
     let len : length new ≡ length old = c.all in
     let one = c.each j (omega arith) in
     let most : slice_index_or old j 0 ≤ n = at_all (λ k. k ≤ n) old j 0 (omega arith) h in
-    let once : count_by (λ k. k == j) (i ∷ []) ≤ 1 = at_most_one (i == j) in
+    let few : count_by (λ k. k == j) is ≤ length is = count_by-le-length (λ k. k == j) is in
     omega arith)
   where
-    at_most_one : (b : Bool) → 0 + cond b 1 0 ≤ 1
-    at_most_one true = omega arith
-    at_most_one false = omega arith
-
     at_all : (P : ℕ → Type 0) (xs : List ℕ) (j d : ℕ) → j < length xs → AllByRecursion P xs → P (slice_index_or xs j d)
     at_all P [] j d lt h = absurd (omega arith)
     at_all P (x ∷ xs) zero d lt h = h.0
@@ -155,6 +152,11 @@ counts_within i n old new h c = all_at (λ k. k ≤ n + 1) new (λ j lt.
     all_at : (P : ℕ → Type 0) (xs : List ℕ) → ((j : ℕ) → j < length xs → P (slice_index_or xs j 0)) → AllByRecursion P xs
     all_at P [] f = tt
     all_at P (x ∷ xs) f = (f zero (omega arith), all_at P xs (λ j lt. f (suc j) (omega arith)))
+
+-- where one has fired once more
+pub counts_within : (i n : ℕ) (old new : List ℕ) → AllByRecursion (λ k. k ≤ n) old → Counted (i ∷ []) old new
+    → AllByRecursion (λ k. k ≤ n + 1) new
+counts_within i n old new h c = counts_all (i ∷ []) n old new h c
 
 -- there is a number for a count that is one more
 pub counts_below : (n : ℕ) (xs : List ℕ) → n + 1 < 2 ^ 64 → AllByRecursion (λ k. k ≤ n) xs
@@ -208,3 +210,11 @@ no_agents (b ∷ hs) (a ∷ arities) e h =
     let first : b.count ≡ 0 = h.0 in
     let later = no_agents hs arities rest h.1 in
     (λ i. first i ∷ later i)
+
+-- registers that begin with the agents without arguments are as many at least
+pub wide_enough : (n : ℕ) (rs : List Word) → take n rs ≡ constants n → n ≤ length rs
+wide_enough n rs is =
+    let len : length (constants n) ≡ n = length-map-range_with_len (λ s. agent_word s 0) 0 n in
+    let first : length (take n rs) ≡ length (constants n) = ap length is in
+    let whole : length (take n rs) ≡ min n (length rs) = length-take n rs in
+    omega arith

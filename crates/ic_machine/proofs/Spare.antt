@@ -1,6 +1,6 @@
 -- Memory that is spare.
 use Rattle.std.specs.Global.{Vec}
-use Rattle.std.proofs.Common.{◌≡◌, false, Result, Ok, Err, OnOk, is_err, ℕ, zero, suc, ◌+◌, ◌*◌, ◌^◌, ◌<◌, ◌≤◌, inl, inr, List, [], ◌∷◌, length, slice_set, ap, refl, sym, subst, ◌∙◌, arith, vec_capacity}
+use Rattle.std.proofs.Common.{◌≡◌, false, Result, Ok, Err, OnOk, is_err, ℕ, zero, suc, ◌+◌, ◌*◌, ◌^◌, ◌<◌, ◌≤◌, inl, inr, List, [], ◌∷◌, length, slice_set, ap, refl, sym, subst, ◌∙◌, arith}
 use Rattle.std.specs.List.{AllByRecursion}
 use Rattle.std.proofs.Math.Nat.{eq-or-lt_of_le, mul-le-mul_right}
 use Rattle.std.proofs.lemmas.List.{length-append}
@@ -14,7 +14,7 @@ use Rattle.ic_machine.specs.inner.Pairs.{Passed}
 use Rattle.ic_machine.specs.inner.Queue.{Queued}
 use Rattle.ic_machine.specs.inner.Tables.{HasMemory, HasRoomFor, HasSpare}
 use Rattle.ic_machine.specs.lemmas.FiringKeeps.{all_of}
-use Rattle.ic_machine.proofs.Heaps.{same_at, set_at, table_set}
+use Rattle.ic_machine.proofs.Heaps.{same_at, same_length, set_at, table_set}
 
 -- what holds where a call is fine, and it is no error
 pub fine : {T E : Type 0} (r : Result T E) (P : Type 0) → OnOk r P → is_err r ≡ false → P
@@ -156,12 +156,14 @@ memory_kept p arguments t u names names_more pending pending_more registers same
     let name_room : length t.names.entries + p.names ≤ t.names.capacity = h.names in
     let few : length t.names.entries + p.names < 2 ^ 32 = h.few in
     let pending_room : length t.pending.items + length p.links ≤ t.pending.capacity = h.pending in
+    let many : length u.heaps.items ≡ length t.heaps.items = same_length t.heaps.items u.heaps.items same in
+    let as_wide = ap (λ (r : Vec Word). length r.items) registers in
+    let wide : length t.heaps.items + (arguments + p.names + length p.made) ≤ length t.registers.items = h.registers in
     record {
       names = omega arith;
       few = omega arith;
       pending = omega arith;
-      registers = subst (λ (r : Vec Word). length r.items + (arguments + p.names + length p.made) ≤ vec_capacity r)
-          (sym registers) h.registers;
+      registers = omega arith;
       heaps = all_of (HasRoom t.heaps.items (length p.made)) (HasRoom u.heaps.items (length p.made)) p.made
           (λ m room. blocks_more t.heaps.items u.heaps.items (length p.made) m.symbol same room) h.heaps;
     }

@@ -1,6 +1,6 @@
 //! What a firing takes, opens and makes.
 
-ghost use Rattle.std.specs.Prelude.{◌≡◌, ℕ, ◌+◌, ◌-◌, ◌^◌, ◌<◌, ◌≤◌, List, [], ◌∷◌, ◌++◌, true, Err, Contains, map, max, length, sum_by, vec_len, vec_capacity, OnOk};
+ghost use Rattle.std.specs.Prelude.{◌≡◌, ℕ, ◌+◌, ◌-◌, ◌^◌, ◌<◌, ◌≤◌, List, [], ◌∷◌, ◌++◌, true, Err, Contains, map, max, take, length, sum_by, vec_len, vec_capacity, OnOk};
 ghost use Rattle.std.specs.List.{AllByRecursion};
 ghost use Rattle.ic_arena.specs.Piece.{room};
 ghost use Rattle.ic_arena.specs.Tables.{blocks_pieces, names_pieces};
@@ -110,30 +110,96 @@ pub(crate) fn push_given(registers: &mut Vec<Word>, given: u32)
     }
 }
 
-/// Makes agents.
+/// Takes the arguments of an agent out of its block into registers, after those that are filled. Answers how many are filled then.
 #[inline(always)]
-pub(crate) fn make_agents(heaps: &mut Vec<Heap>, makes: &[Make], registers: &mut Vec<Word>)
-    requires made { AreMade (arities_of heaps.old.items) (length registers.old.items)
-        (map made_of makes.now) }
-    requires words { AllByRecursion (λ w. w.tag < IDLE) registers.old.items }
+pub(crate) fn take_into(
+    heaps: &mut Vec<Heap>,
+    agent: Word,
+    registers: &mut [Word],
+    filled: usize,
+) -> usize
+    requires some { 1 ≤ agent.tag }
+    requires symbol { agent.tag ≤ length heaps.old.items }
+    requires there { 1 ≤ (table heaps.old.items (agent.tag - 1)).arity
+        → 1 ≤ sum_by (room agent) (heaps_pieces 0 heaps.old.items) }
+    requires room { filled + (table heaps.old.items (agent.tag - 1)).arity ≤ length registers.old }
+    ensures filled { result ≡ filled + (table heaps.old.items (agent.tag - 1)).arity }
+    ensures taken { Taken agent (table heaps.old.items (agent.tag - 1)).arity
+        (heaps_pieces 0 heaps.old.items) (heaps_pieces 0 heaps.new.items)
+        (take filled registers.old) (take result registers.new) }
+    ensures sizes { (s : ℕ) → SameSize (table heaps.old.items s) (table heaps.new.items s) }
+    ensures arities { arities_of heaps.new.items ≡ arities_of heaps.old.items }
+    ensures len { length registers.new ≡ length registers.old }
+{
+    let heap = &mut heaps[agent.tag as usize - 1];
+    if heap.arity() == 0 {
+        return filled;
+    }
+    heap.take_into(agent.index, registers, filled)
+}
+
+/// Opens so many names into registers, after those that are filled. Answers how many are filled then.
+#[inline(always)]
+pub(crate) fn open_into(
+    names: &mut Names,
+    count: u32,
+    registers: &mut [Word],
+    filled: usize,
+) -> usize
+    requires room { length names.old.entries + count ≤ names.old.capacity }
+    requires few { length names.old.entries + count < 2 ^ 32 }
+    requires registers { filled + count ≤ length registers.old }
+    ensures filled { result ≡ filled + count }
+    ensures opened { Opened count names.old.entries names.new.entries
+        (take filled registers.old) (take result registers.new) }
+    ensures few { length names.new.entries ≤ length names.old.entries + count }
+    // There are as many as before, or all are in use now.
+    ensures places { length names.new.entries
+        ≡ max (length names.old.entries) (length (names_pieces 0 names.new.entries)) }
+    ensures memory { names.new.capacity ≡ names.old.capacity }
+    ensures len { length registers.new ≡ length registers.old }
+{
+    let mut next = filled;
+    for opened in 0..count {
+        registers[next] = Word::name(names.open());
+        next += 1;
+    }
+    next
+}
+
+/// Makes agents, with their words in registers after those that are filled. Answers how many are filled then.
+#[inline(always)]
+pub(crate) fn make_into(
+    heaps: &mut Vec<Heap>,
+    makes: &[Make],
+    registers: &mut [Word],
+    filled: usize,
+) -> usize
+    requires made { AreMade (arities_of heaps.old.items) filled (map made_of makes.now) }
+    requires words { AllByRecursion (λ w. w.tag < IDLE) (take filled registers.old) }
     requires symbols { length heaps.old.items < GIVEN }
     requires room { AllByRecursion (HasRoom heaps.old.items (length makes.now))
         (map made_of makes.now) }
-    requires registers { vec_len registers.old + length makes.now ≤ vec_capacity registers.old }
+    requires registers { filled + length makes.now ≤ length registers.old }
+    ensures filled { result ≡ filled + length makes.now }
     ensures made { Makes (map made_of makes.now)
         (heaps_pieces 0 heaps.old.items) (heaps_pieces 0 heaps.new.items)
-        registers.old.items registers.new.items }
-    ensures words { AllByRecursion (λ w. w.tag < IDLE) registers.new.items }
+        (take filled registers.old) (take result registers.new) }
+    ensures words { AllByRecursion (λ w. w.tag < IDLE) (take result registers.new) }
     ensures arities { arities_of heaps.new.items ≡ arities_of heaps.old.items }
     ensures sizes { (s : ℕ)
         → IsGrown (length makes.now) (table heaps.old.items s) (table heaps.new.items s) }
     // Of each symbol there are as many as before, or all are in use now.
     ensures places { (s : ℕ) → (table heaps.new.items s).count
         ≡ max (table heaps.old.items s).count (length (blocks_pieces s (table heaps.new.items s))) }
+    ensures len { length registers.new ≡ length registers.old }
 {
+    let mut next = filled;
     for make in makes {
         let heap = &mut heaps[make.symbol as usize];
-        let block = heap.put(&make.operands, registers);
-        registers.push_reserved(Word::agent(make.symbol, block));
+        let block = heap.put(&make.operands, &registers[..next]);
+        registers[next] = Word::agent(make.symbol, block);
+        next += 1;
     }
+    next
 }

@@ -158,16 +158,41 @@ impl Machine {
             → self.new.interactions < self.old.interactions + steps }
         ensures broken { OnErr result (self.new.pending ≢ []) }
     {
-        for step in 0..steps {
+        let mut left = steps;
+        while left > 0 {
             if !self.step::<STAMPED>(program)? {
                 return Ok(Ended::Quiet);
             }
+            left -= 1;
+            left -= self.run_spare::<STAMPED>(program, left);
         }
         if self.is_quiet(program)? {
             Ok(Ended::Quiet)
         } else {
             Ok(Ended::Steps)
         }
+    }
+
+    /// Fires the last pending pair, as long as it has a plan and memory is spare, so many times at most. Answers how many have fired.
+    fn run_spare<const STAMPED: bool>(&mut self, program: &Program, steps: u64) -> u64
+        requires arities { self.old.arities ≡ program.now.arities }
+        requires few { self.old.interactions + steps < 2 ^ 64 }
+        ensures ran { Ran program.now self.old self.new }
+        ensures fired { self.new.interactions ≡ self.old.interactions + result }
+        ensures within { result ≤ steps }
+    {
+        let Some(most) = program.most() else {
+            return 0;
+        };
+        let times = self.tables.spare_for(most, steps);
+        if times == 0 {
+            return 0;
+        }
+        let fired = self
+            .tables
+            .fire_each::<STAMPED>(program, &mut self.counts, most, times);
+        self.interactions += fired;
+        fired
     }
 
     /// Fires the last pending pair that has a plan, if there is one. Those that come after it are set aside.
@@ -444,7 +469,7 @@ fn set_aside(pair: Equation, aside: &mut Vec<Equation>) -> Result<(), MachineFau
 
 /// Counts a plan that has fired, if it is one of those that are counted.
 #[inline(always)]
-fn count(counts: &mut Vec<u64>, number: u32)
+pub(crate) fn count(counts: &mut Vec<u64>, number: u32)
     requires { AllByRecursion (λ k. k + 1 < 2 ^ 64) counts.old.items }
     ensures { Counted (number ∷ []) counts.old.items counts.new.items }
 {

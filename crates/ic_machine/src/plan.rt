@@ -1,10 +1,11 @@
 //! Plans: what a rule makes of two agents, ready to be made.
 
-ghost use Rattle.std.specs.Prelude.{◌≡◌, ℕ, ◌+◌, ◌^◌, ◌<◌, [], ◌∷◌, ◌++◌, None, Some, length, map, slice_get, IfSome, IfNone, IfOk, OnOk, OnErr};
+ghost use Rattle.std.specs.Prelude.{◌≡◌, ℕ, ◌+◌, ◌^◌, ◌<◌, ◌≤◌, [], ◌∷◌, ◌++◌, None, Some, length, map, slice_get, IfSome, IfNone, IfOk, OnOk, OnErr};
 ghost use Rattle.std.specs.Option.{option_map};
 ghost use Rattle.ic_machine.specs.Plan.{planned, plan_of, IsPlan, ArePlans};
 ghost use Rattle.ic_machine.specs.Net.{IsStuck, IsPair};
 ghost use Rattle.ic_machine.specs.inner.Pairs.{HasNumber};
+ghost use Rattle.ic_machine.specs.inner.Tables.{size_of, NeedAtMost};
 
 use crate::equation::Equation;
 use crate::pairs::PairIndex;
@@ -40,11 +41,13 @@ pub struct Program {
     arities: Vec<u32>,
     pairs: PairIndex,
     plans: Vec<Plan>,
+    /// No plan needs more than so much, where that is a number.
+    most: Option<usize>,
 }
 
 impl Model for Program {
     ghost use Rattle.std.specs.Prelude.{map};
-    ghost use Rattle.ic_machine.specs.Plan.{Plans, ArePlans, planned};
+    ghost use Rattle.ic_machine.specs.Plan.{Plans, planned};
 
     ghost Value = { Plans };
 
@@ -54,12 +57,14 @@ impl Model for Program {
       plans = map planned p.plans.items;
     } };
 
-    ghost invariant = { λ p. ArePlans
+    ghost use Rattle.ic_machine.specs.inner.Tables.{IsProgram};
+
+    ghost invariant = { λ p. IsProgram
         (record {
           arities = p.arities.items;
           pairs = p.pairs;
           plans = map planned p.plans.items;
-        }) };
+        }) p.most };
 }
 
 impl Program {
@@ -72,6 +77,7 @@ impl Program {
             arities,
             pairs,
             plans: Vec::new(alloc),
+            most: Some(0),
         })
     }
 
@@ -92,8 +98,10 @@ impl Program {
         ensures same { OnErr result (self.new ≡ self.old) }
         ensures sound { ArePlans self.new }
     {
+        let arguments = self.arities[a as usize] as usize + self.arities[b as usize] as usize;
         self.plans.reserve(1)?;
         self.pairs.push(a, b)?;
+        self.most = greater(self.most, need_of(arguments, &plan));
         self.plans.push_reserved(plan);
         Ok(())
     }
@@ -117,6 +125,15 @@ impl Program {
             None => None,
             Some(number) => self.plans.get(number as usize),
         }
+    }
+
+    /// No plan needs more than so much: registers for its arguments, names and agents, and equations, all together.
+    #[inline(always)]
+    pub(crate) fn most(&self) -> Option<usize>
+        ensures most { IfSome result (λ most. NeedAtMost most self.now) }
+        ensures sound { ArePlans self.now }
+    {
+        self.most
     }
 
     /// The plans, by their numbers.
@@ -146,5 +163,24 @@ impl Program {
             return None;
         }
         self.pairs.get(left - 1, right - 1)
+    }
+}
+
+/// How many registers a plan needs for so many arguments, names and agents, and how many equations it makes, all together.
+fn need_of(arguments: usize, plan: &Plan) -> Option<usize>
+    ensures { IfSome result (λ need. arguments + size_of (planned plan.now) ≡ need) }
+{
+    let made = plan.names as usize + plan.makes.len();
+    made.checked_add(plan.links.len())?.checked_add(arguments)
+}
+
+/// The greater one of two numbers, where both are there.
+fn greater(one: Option<usize>, other: Option<usize>) -> Option<usize>
+    ensures most { IfSome result (λ most. IfSome one (λ a. a ≤ most) × IfSome other (λ b. b ≤ most)) }
+    ensures both { IfSome result (λ most. (IfNone one ⊥) × IfNone other ⊥) }
+{
+    match (one, other) {
+        (Some(one), Some(other)) => Some(one.max(other)),
+        _ => None,
     }
 }

@@ -1,6 +1,6 @@
 //! The tables of a machine.
 
-ghost use Rattle.std.specs.Prelude.{◌≡◌, ℕ, ◌+◌, ◌-◌, ◌^◌, ◌<◌, ◌≤◌, List, [], ◌∷◌, ◌++◌, Some, Err, map, length, take, slice_get, OnOk, OnErr, IfOk};
+ghost use Rattle.std.specs.Prelude.{◌≡◌, ℕ, ◌+◌, ◌-◌, ◌*◌, ◌^◌, ◌<◌, ◌≤◌, List, [], ◌∷◌, ◌++◌, Some, Err, map, length, take, slice_get, OnOk, OnErr, IfOk};
 ghost use Rattle.std.specs.List.{AllByRecursion};
 ghost use Rattle.ic_arena.specs.declared.word.TheConstants.{GIVEN};
 ghost use Rattle.ic_machine.specs.Net.{equated_of, IsPair};
@@ -11,10 +11,10 @@ ghost use Rattle.ic_machine.specs.inner.Linking.{Pushed};
 ghost use Rattle.ic_machine.specs.inner.Pairs.{CanFire, IsFirst, IsLast};
 
 use crate::equation::Equation;
-use crate::firing::{MAX_ENTRIES, make_agents, open_names, reserve_blocks, reserve_each, take};
+use crate::firing::{MAX_ENTRIES, make_into, open_into, reserve_blocks, reserve_each, take_into};
 use crate::linking::link_all;
-use crate::machine::MachineFault;
-use crate::plan::Plan;
+use crate::machine::{MachineFault, count};
+use crate::plan::{Plan, Program};
 use crate::queue::Queue;
 use crate::stamps::Stamps;
 use ic_arena::{Heap, Names, Word};
@@ -40,7 +40,7 @@ pub(crate) struct Tables {
 }
 
 impl Tables {
-    ghost use Rattle.ic_machine.specs.inner.Tables.{arguments_of, held, size_at, size_of, HasMemory, HasRoomFor, HasSpare, IsReady, IsMade, IsNumbered, IsTooMuch, FiresBy};
+    ghost use Rattle.ic_machine.specs.inner.Tables.{arguments_of, held, size_at, size_of, HasMemory, HasRoomFor, HasSpare, IsReady, IsMade, IsNumbered, IsTooMuch, FiresBy, FiresEach, NeedAtMost};
 
     /// Tables of nothing, for symbols of these arities. The registers hold the agents without arguments.
     pub(crate) fn new(alloc: Global, arities: &[u32]) -> Result<Tables, AllocError>
@@ -80,10 +80,11 @@ impl Tables {
         requires arguments { arguments < 2 ^ 33 }
         requires known { AllByRecursion (λ m. m.symbol < length self.old.heaps.items)
             (map made_of plan.now.makes.items) }
+        requires wide { length self.old.heaps.items ≤ length self.old.registers.items }
         ensures names { self.new.names.entries ≡ self.old.names.entries }
         ensures heaps { AreSame self.old.heaps.items self.new.heaps.items }
         ensures pending { self.new.pending.items ≡ self.old.pending.items }
-        ensures registers { self.new.registers.items
+        ensures registers { take (length self.old.heaps.items) self.new.registers.items
             ≡ take (length self.old.heaps.items) self.old.registers.items }
         ensures memory { OnOk result (HasMemory (planned plan.now) arguments self.new) }
         ensures limit { result ≡ Err MachineFault.Limit
@@ -92,15 +93,14 @@ impl Tables {
         ensures spare { self.new.spare ≡ self.old.spare }
     {
         let names = plan.names as usize;
-        self.registers.truncate(self.heaps.len());
         reserve_blocks(&mut self.heaps, &plan.makes)?;
         if names > MAX_ENTRIES - self.names.len() {
             return Err(MachineFault::Limit);
         }
         self.names.reserve(names)?;
         self.pending.reserve(plan.links.len())?;
-        self.registers
-            .reserve(arguments + names + plan.makes.len())?;
+        let size = arguments + names + plan.makes.len();
+        widen(&mut self.registers, self.heaps.len() + size.max(SPARE))?;
         Ok(())
     }
 
@@ -143,11 +143,12 @@ impl Tables {
         requires arguments { arguments < 2 ^ 33 }
         requires known { AllByRecursion (λ m. m.symbol < length self.old.heaps.items)
             (map made_of plan.now.makes.items) }
+        requires wide { length self.old.heaps.items ≤ length self.old.registers.items }
         requires spare { HasSpare self.old }
         ensures names { self.new.names.entries ≡ self.old.names.entries }
         ensures heaps { AreSame self.old.heaps.items self.new.heaps.items }
         ensures pending { self.new.pending.items ≡ self.old.pending.items }
-        ensures registers { self.new.registers.items
+        ensures registers { take (length self.old.heaps.items) self.new.registers.items
             ≡ take (length self.old.heaps.items) self.old.registers.items }
         ensures memory { OnOk result (HasMemory (planned plan.now) arguments self.new) }
         ensures spare { OnOk result (1 ≤ self.new.spare
@@ -158,8 +159,7 @@ impl Tables {
     {
         let size = plan.names as usize + plan.makes.len();
         let links = plan.links.len();
-        self.registers.truncate(self.heaps.len());
-        let free = self.registers.capacity() - self.registers.len();
+        let free = self.registers.len() - self.heaps.len();
         if size < self.spare && links < self.spare - size && arguments + size <= free {
             self.spare -= size + links;
             return Ok(());
@@ -170,27 +170,29 @@ impl Tables {
         Ok(())
     }
 
-    /// Makes what a plan makes of the arguments in the registers.
+    /// Makes what a plan makes of the arguments in the registers, so many of which are filled.
     #[inline(always)]
-    pub(crate) fn make<const STAMPED: bool>(&mut self, plan: &Plan)
-        requires ready { IsReady (planned plan.now) self.old }
-        requires memory { HasMemory (planned plan.now) 0 self.old }
-        ensures made { IsMade (planned plan.now) self.old self.new }
+    pub(crate) fn make<const STAMPED: bool>(&mut self, plan: &Plan, filled: usize)
+        requires ready { IsReady (planned plan.now) filled self.old }
+        requires memory { HasMemory (planned plan.now) (filled - length self.old.heaps.items)
+            self.old }
+        ensures made { IsMade (planned plan.now) filled self.old self.new }
         ensures pushed { Pushed self.old.pending.items self.new.pending.items }
         ensures arities { arities_of self.new.heaps.items ≡ arities_of self.old.heaps.items }
         ensures few { length self.new.names.entries < 2 ^ 32 }
         ensures room { (n : ℕ) → HasRoomFor (n + size_of (planned plan.now)) self.old
             → HasRoomFor n self.new }
+        ensures width { length self.new.registers.items ≡ length self.old.registers.items }
         ensures spare { self.new.spare ≡ self.old.spare }
     {
-        open_names(&mut self.names, plan.names, &mut self.registers);
-        make_agents(&mut self.heaps, &plan.makes, &mut self.registers);
+        let opened = open_into(&mut self.names, plan.names, &mut self.registers, filled);
+        let made = make_into(&mut self.heaps, &plan.makes, &mut self.registers, opened);
         link_all::<STAMPED>(
             &mut self.names,
             &mut self.pending,
             &mut self.stamps,
             &plan.links,
-            &self.registers,
+            &self.registers[..made],
         );
     }
 
@@ -279,6 +281,72 @@ impl Tables {
         Ok(())
     }
 
+    /// How many pairs may fire with the memory that is spare, by plans that need so much at most, so many pairs at most. That memory
+    /// is theirs then.
+    pub(crate) fn spare_for(&mut self, most: usize, times: u64) -> u64
+        requires registers { length self.old.heaps.items ≤ length self.old.registers.items }
+        requires spare { HasSpare self.old }
+        ensures same { self.new ≡ record self.old { spare = self.new.spare } }
+        ensures spare { HasSpare self.new }
+        ensures within { result ≤ times }
+        ensures room { 1 ≤ result → HasRoomFor (self.new.spare + result * most) self.new }
+        ensures wide { 1 ≤ result
+            → length self.new.heaps.items + most ≤ length self.new.registers.items }
+    {
+        if most == 0 || self.registers.len() - self.heaps.len() < most {
+            return 0;
+        }
+        let count = ((self.spare / most) as u64).min(times);
+        self.spare -= count as usize * most;
+        count
+    }
+
+    /// Fires the last pending pair, so many times, as long as it has a plan. There is memory for plans that need so much at most.
+    /// Answers how many pairs have fired.
+    #[inline(never)]
+    pub(crate) fn fire_each<const STAMPED: bool>(
+        &mut self,
+        program: &Program,
+        counts: &mut Vec<u64>,
+        most: usize,
+        times: u64,
+    ) -> u64
+        requires arities { arities_of self.old.heaps.items ≡ program.now.arities }
+        requires few { length self.old.names.entries < 2 ^ 32 }
+        requires symbols { length self.old.heaps.items < GIVEN }
+        requires registers { take (length self.old.heaps.items) self.old.registers.items
+            ≡ constants (length self.old.heaps.items) }
+        requires separate { IsSeparate (arities_of self.old.heaps.items) [] (held self.old []) }
+        requires pairs { AllByRecursion IsPair self.old.pending.items }
+        requires most { NeedAtMost most program.now }
+        requires room { HasRoomFor (self.old.spare + times * most) self.old }
+        requires wide { length self.old.heaps.items + most ≤ length self.old.registers.items }
+        requires counts { AllByRecursion (λ k. k + times < 2 ^ 64) counts.old.items }
+        ensures within { result ≤ times }
+        ensures fires { (rest : List Equation) → AllByRecursion IsPair rest
+            → FiresEach program.now result counts.old.items counts.new.items self.old self.new rest }
+        ensures arities { arities_of self.new.heaps.items ≡ arities_of self.old.heaps.items }
+        ensures pairs { AllByRecursion IsPair self.new.pending.items }
+        ensures few { length self.new.names.entries < 2 ^ 32 }
+        ensures registers { take (length self.new.heaps.items) self.new.registers.items
+            ≡ constants (length self.new.heaps.items) }
+        ensures spare { HasSpare self.new }
+    {
+        for fired in 0..times {
+            let Some(pair) = self.pending.last() else {
+                return fired;
+            };
+            let Some(number) = program.number_for(pair) else {
+                return fired;
+            };
+            self.stamps.count_last::<STAMPED>(&self.pending);
+            self.pending.pop();
+            self.fire::<STAMPED>(pair, program.plan_at(number));
+            count(counts, number);
+        }
+        times
+    }
+
     /// How many arguments the agents of a pair have.
     #[inline(always)]
     fn arguments(&self, pair: Equation) -> usize
@@ -296,14 +364,13 @@ impl Tables {
     #[inline(always)]
     fn fire<const STAMPED: bool>(&mut self, pair: Equation, plan: &Plan)
         requires symbols { length self.old.heaps.items < GIVEN }
-        requires registers { self.old.registers.items ≡ constants (length self.old.heaps.items) }
+        requires registers { take (length self.old.heaps.items) self.old.registers.items
+            ≡ constants (length self.old.heaps.items) }
         requires plan { CanFire (arities_of self.old.heaps.items) pair (planned plan.now) }
         requires separate { IsSeparate (arities_of self.old.heaps.items) []
             (equated_of pair ∷ held self.old []) }
         requires memory { HasMemory (planned plan.now) (arguments_of pair self.old.heaps.items)
             self.old }
-        requires spare { 1 ≤ self.old.spare
-            → HasRoomFor (self.old.spare + size_of (planned plan.now)) self.old }
         ensures fires { (p : Plans) (i left right : ℕ) (rest : List Equation)
             → pair.left.tag ≡ left + 1 → pair.right.tag ≡ right + 1
             → p.arities ≡ arities_of self.old.heaps.items
@@ -315,10 +382,27 @@ impl Tables {
         ensures few { length self.new.names.entries < 2 ^ 32 }
         ensures registers { take (length self.new.heaps.items) self.new.registers.items
             ≡ constants (length self.new.heaps.items) }
-        ensures spare { HasSpare self.new }
+        ensures room { (n : ℕ) → HasRoomFor (n + size_of (planned plan.now)) self.old
+            → HasRoomFor n self.new }
+        ensures width { length self.new.registers.items ≡ length self.old.registers.items }
+        ensures spare { self.new.spare ≡ self.old.spare }
     {
-        take(&mut self.heaps, pair.left, &mut self.registers);
-        take(&mut self.heaps, pair.right, &mut self.registers);
-        self.make::<STAMPED>(plan);
+        let symbols = self.heaps.len();
+        let left = take_into(&mut self.heaps, pair.left, &mut self.registers, symbols);
+        let both = take_into(&mut self.heaps, pair.right, &mut self.registers, left);
+        self.make::<STAMPED>(plan, both);
     }
+}
+
+/// Makes registers as many as these, if there are fewer.
+#[cold]
+#[inline(never)]
+fn widen(registers: &mut Vec<Word>, count: usize) -> Result<(), AllocError>
+    ensures same { take (length registers.old.items) registers.new.items ≡ registers.old.items }
+    ensures wide { OnOk result (count ≤ length registers.new.items) }
+{
+    if registers.len() < count {
+        registers.resize(count, Word { tag: 0, index: 0 })?;
+    }
+    Ok(())
 }

@@ -111,6 +111,40 @@ no_number p a b sound none = at (number_of p a b) refl
         let low = (numbered_pair p a b i sound is).2 in
         absurd (none_or p.plans i low (sym (ap (plan_at p.plans) is) ∙ none))
 
+-- What holds of the plan of each pair, by the arities of its symbols, holds with a plan more, of a pair that had none.
+module _ (P : ℕ → Planned → Type 0) (p : Plans) (a b : ℕ) (plan : Planned) (sound : ArePlans p) (none : plan_of p a b ≡ None)
+    (each : (x y left right : ℕ) → slice_get p.arities x ≡ Some left → slice_get p.arities y ≡ Some right → IfSome (plan_of p x y) (P (left + right)))
+    (fits : (left right : ℕ) → slice_get p.arities a ≡ Some left → slice_get p.arities b ≡ Some right → P (left + right) plan) where
+  pub each_added : (x y left right : ℕ) → slice_get p.arities x ≡ Some left → slice_get p.arities y ≡ Some right
+      → IfSome (plan_at (p.plans ++ plan ∷ []) (place_of x y (p.pairs ++ (a, b) ∷ []))) (P (left + right))
+  each_added x y left right first second = at (a == x && b == y) refl (number_of p x y) refl
+    where
+      new : place_of a b p.pairs ≡ None
+      new = no_number p a b sound none
+
+      plans : List Planned
+      plans = p.plans ++ plan ∷ []
+
+      at : (c : Bool) → (a == x && b == y) ≡ c → (o : Option ℕ) → number_of p x y ≡ o
+          → IfSome (plan_at plans (place_of x y (p.pairs ++ (a, b) ∷ []))) (P (left + right))
+      at true e o is =
+          let same = same_pair a b x y e in
+          let place : place_of x y (p.pairs ++ (a, b) ∷ []) ≡ Some (length p.pairs) =
+          place_pushed p.pairs a b new x y ∙ ap (λ c. cond c (Some (length p.pairs)) (number_of p x y)) e in
+          let there = ap (plan_at plans) place ∙ there_last p.plans plan (length p.pairs) sound.counted in
+          subst (λ (o : Option Planned). IfSome o (P (left + right))) (sym there)
+          (fits left right (ap (slice_get p.arities) (sym same.0) ∙ first) (ap (slice_get p.arities) (sym same.1) ∙ second))
+      at false e None is =
+          let place : place_of x y (p.pairs ++ (a, b) ∷ []) ≡ None =
+          place_pushed p.pairs a b new x y ∙ ap (λ c. cond c (Some (length p.pairs)) (number_of p x y)) e ∙ is in
+          subst (λ (o : Option Planned). IfSome o (P (left + right))) (sym (ap (plan_at plans) place)) tt
+      at false e (Some i) is =
+          let place : place_of x y (p.pairs ++ (a, b) ∷ []) ≡ Some i =
+          place_pushed p.pairs a b new x y ∙ ap (λ c. cond c (Some (length p.pairs)) (number_of p x y)) e ∙ is in
+          let low = (numbered_pair p x y i sound is).2 in
+          let there = ap (plan_at plans) place ∙ there_front p.plans plan i low ∙ sym (ap (plan_at p.plans) is) in
+          subst (λ (o : Option Planned). IfSome o (P (left + right))) (sym there) (each x y left right first second)
+
 -- a plan more, of a pair that had none
 pub plans_added : (p : Plans) (a b : ℕ) (plan : Planned) → ArePlans p → a < length p.arities → b < length p.arities → plan_of p a b ≡ None
     → ((left right : ℕ) → slice_get p.arities a ≡ Some left → slice_get p.arities b ≡ Some right → IsPlan p.arities (left + right) plan)
@@ -118,32 +152,5 @@ pub plans_added : (p : Plans) (a b : ℕ) (plan : Planned) → ArePlans p → a 
 plans_added p a b plan sound la lb none fits = record {
   counted = omega (arith, length-append p.pairs ((a, b) ∷ []), length-append p.plans (plan ∷ []), sound.counted);
   known = all_append (λ (q : ℕ × ℕ). (q.0 < length p.arities) × (q.1 < length p.arities)) p.pairs ((a, b) ∷ []) sound.known ((la, lb), tt);
-  each = λ x y left right first second. at x y left right first second (a == x && b == y) refl (number_of p x y) refl;
+  each = each_added (IsPlan p.arities) p a b plan sound none sound.each fits;
 }
-  where
-    new : place_of a b p.pairs ≡ None
-    new = no_number p a b sound none
-
-    plans : List Planned
-    plans = p.plans ++ plan ∷ []
-
-    at : (x y left right : ℕ) → slice_get p.arities x ≡ Some left → slice_get p.arities y ≡ Some right
-        → (c : Bool) → (a == x && b == y) ≡ c → (o : Option ℕ) → number_of p x y ≡ o
-        → IfSome (plan_at plans (place_of x y (p.pairs ++ (a, b) ∷ []))) (IsPlan p.arities (left + right))
-    at x y left right first second true e o is =
-        let same = same_pair a b x y e in
-        let place : place_of x y (p.pairs ++ (a, b) ∷ []) ≡ Some (length p.pairs) =
-        place_pushed p.pairs a b new x y ∙ ap (λ c. cond c (Some (length p.pairs)) (number_of p x y)) e in
-        let there = ap (plan_at plans) place ∙ there_last p.plans plan (length p.pairs) sound.counted in
-        subst (λ (o : Option Planned). IfSome o (IsPlan p.arities (left + right))) (sym there)
-        (fits left right (ap (slice_get p.arities) (sym same.0) ∙ first) (ap (slice_get p.arities) (sym same.1) ∙ second))
-    at x y left right first second false e None is =
-        let place : place_of x y (p.pairs ++ (a, b) ∷ []) ≡ None =
-        place_pushed p.pairs a b new x y ∙ ap (λ c. cond c (Some (length p.pairs)) (number_of p x y)) e ∙ is in
-        subst (λ (o : Option Planned). IfSome o (IsPlan p.arities (left + right))) (sym (ap (plan_at plans) place)) tt
-    at x y left right first second false e (Some i) is =
-        let place : place_of x y (p.pairs ++ (a, b) ∷ []) ≡ Some i =
-        place_pushed p.pairs a b new x y ∙ ap (λ c. cond c (Some (length p.pairs)) (number_of p x y)) e ∙ is in
-        let low = (numbered_pair p x y i sound is).2 in
-        let there = ap (plan_at plans) place ∙ there_front p.plans plan i low ∙ sym (ap (plan_at p.plans) is) in
-        subst (λ (o : Option Planned). IfSome o (IsPlan p.arities (left + right))) (sym there) (sound.each x y left right first second)

@@ -10,4 +10,4 @@ returns-clause-found c =
     let b : ℕ = c.args.equation.right.tag - 1 in
     subst (λ (p : Plans). IfSome c.get.result (HasNumber p c.args.equation)) c.self.view_is
     (found_number (record { arities = c.self.inside.arities.items; pairs = c.self.inside.pairs; plans = map planned c.self.inside.plans.items })
-    c.args.equation c.get.result a b c.self.invariant (omega (arith, c.if-left-eq0.false)) (omega (arith, c.if-right-eq0.false)) (sym c.get.ensures))
+    c.args.equation c.get.result a b c.self.invariant.plans (omega (arith, c.if-left-eq0.false)) (omega (arith, c.if-right-eq0.false)) (sym c.get.ensures))

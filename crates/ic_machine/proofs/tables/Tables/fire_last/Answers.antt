@@ -5,7 +5,7 @@ use Rattle.std.proofs.lemmas.List.{append_cancel_right}
 use Rattle.ic_arena.specs.Tables.{Blocks}
 use Rattle.ic_machine.specs.declared.equation.Equation.{Equation}
 use Rattle.ic_machine.specs.declared.tables.Tables.{Tables}
-use Rattle.ic_machine.specs.Plan.{Planned, constants, planned}
+use Rattle.ic_machine.specs.Plan.{Planned, planned}
 use Rattle.ic_machine.specs.Net.{equated_of, IsPair}
 use Rattle.ic_machine.specs.inner.Firing.{arities_of}
 use Rattle.ic_machine.specs.inner.Linking.{Pushed}
@@ -16,7 +16,7 @@ use Rattle.ic_machine.proofs.Fired.{fires_before, last_apart, left_table, right_
 use Rattle.ic_machine.proofs.Fresh.{all_front}
 use Rattle.ic_machine.proofs.Heaps.{made_known, same_arities, same_at, same_length, same_pieces}
 use Rattle.ic_machine.proofs.InUse.{same_size}
-use Rattle.ic_machine.proofs.Sound.{first_registers}
+use Rattle.ic_machine.proofs.Registers.{first_kept, wide_enough}
 use Rattle.ic_machine.proofs.tables.Tables.fire_last.Goals as goal
 use Rattle.ic_machine.proofs.tables.Tables.fire_last.Goals.{After-pop}
 
@@ -52,10 +52,15 @@ fire-requires-clause-symbols g c =
     let len = same_length c.args.self.now.heaps.items c.prepare.new.self.heaps.items c.prepare.ensures.heaps in
     omega arith
 
+pub prepare-requires-clause-wide : goal.prepare-requires-clause-wide
+prepare-requires-clause-wide g c =
+    wide_enough (length c.args.self.now.heaps.items) c.args.self.now.registers.items c.requires.registers
+
 pub fire-requires-clause-registers : goal.fire-requires-clause-registers
 fire-requires-clause-registers g c =
-    c.prepare.ensures.registers ∙ (c.requires.registers
-    ∙ ap constants (sym (same_length c.args.self.now.heaps.items c.prepare.new.self.heaps.items c.prepare.ensures.heaps)))
+    first_kept (length c.args.self.now.heaps.items) (length c.prepare.new.self.heaps.items) c.prepare.new.self.registers.items
+    (same_length c.args.self.now.heaps.items c.prepare.new.self.heaps.items c.prepare.ensures.heaps)
+    (c.prepare.ensures.registers ∙ c.requires.registers)
 
 pub fire-requires-clause-plan : goal.fire-requires-clause-plan
 fire-requires-clause-plan g c =
@@ -91,19 +96,20 @@ fire-requires-clause-memory g c =
       heaps = same.heaps;
     }
 
-pub fire-requires-clause-spare : goal.fire-requires-clause-spare
-fire-requires-clause-spare g c = λ some.
+pub returns-clause-spare : goal.returns-clause-spare
+returns-clause-spare g c = λ some.
     let t : Tables = c.prepare.new.self in
     let p : Planned = planned c.args.plan.now in
-    let room : HasRoomFor (t.spare + size_of p) t = c.in_ok-prepare.ensures.spare some in
+    let same : c.fire.new.self.spare ≡ t.spare = c.fire.ensures.spare in
+    let room : HasRoomFor (t.spare + size_of p) t = c.in_ok-prepare.ensures.spare (omega arith) in
     let pending : length t.pending.items + (t.spare + size_of p) ≤ t.pending.capacity = room.pending in
     let less = c.pop.ensures.len in
-    record {
+    subst (λ (k : ℕ). HasRoomFor k c.fire.new.self) (sym same) (c.fire.ensures.room t.spare (record {
       names = room.names;
       few = room.few;
       pending = omega (arith, c.pop.ensures.capacity);
       heaps = room.heaps;
-    }
+    }))
 
 pub returns-in_err-prepare-clause-spare : goal.returns-in_err-prepare-clause-spare
 returns-in_err-prepare-clause-spare g c = λ some. absurd (omega (arith, c.in_err-prepare.ensures.none))
@@ -130,7 +136,7 @@ returns-in_err-prepare-clause-arities g c =
 
 pub returns-in_err-prepare-clause-registers : goal.returns-in_err-prepare-clause-registers
 returns-in_err-prepare-clause-registers g c =
-    first_registers (length c.args.self.now.heaps.items) (length c.prepare.new.self.heaps.items)
+    first_kept (length c.args.self.now.heaps.items) (length c.prepare.new.self.heaps.items)
     c.prepare.new.self.registers.items
     (same_length c.args.self.now.heaps.items c.prepare.new.self.heaps.items c.prepare.ensures.heaps)
     (c.prepare.ensures.registers ∙ c.requires.registers)

@@ -1,6 +1,7 @@
-use Rattle.std.proofs.Common.{◌≡◌, ◌+◌, ◌^◌, ◌<◌, ◌≤◌, ℕ, List, [], ◌++◌, length, map, max, ap, sym, subst, ◌∙◌, append_assoc, arith}
+use Rattle.std.specs.Vec.{with_items}
+use Rattle.std.proofs.Common.{◌≡◌, ◌+◌, ◌<◌, ℕ, List, [], ◌++◌, length, map, max, take, ap, sym, subst, ◌∙◌, append_assoc, arith}
 use Rattle.std.specs.List.{AllByRecursion}
-use Rattle.std.proofs.lemmas.List.{length-append, length-map}
+use Rattle.std.proofs.lemmas.List.{length-map}
 use Rattle.ic_arena.specs.declared.word.Word.{Word}
 use Rattle.ic_arena.specs.declared.word.TheConstants.{IDLE}
 use Rattle.ic_arena.specs.Tables.{Blocks, names_pieces}
@@ -8,156 +9,163 @@ use Rattle.ic_machine.specs.declared.equation.Equation.{Equation}
 use Rattle.ic_machine.specs.declared.plan.Link.{Link}
 use Rattle.ic_machine.specs.declared.plan.Make.{Make}
 use Rattle.ic_machine.specs.declared.tables.Tables.{Tables}
-use Rattle.ic_machine.specs.Plan.{Planned, AreMade, constants, linked, made_of, pieces_made, planned}
+use Rattle.ic_machine.specs.Plan.{Planned, constants, linked, made_of, pieces_made, planned}
 use Rattle.ic_machine.specs.Net.{equated_of, in_use}
 use Rattle.ic_machine.specs.Steps.{Steps}
-use Rattle.ic_machine.specs.inner.Firing.{arities_of, heaps_pieces, table, Makes, Opened}
+use Rattle.ic_machine.specs.inner.Firing.{arities_of, heaps_pieces, Makes, Opened}
 use Rattle.ic_machine.specs.inner.Linking.{AreLinks}
 use Rattle.ic_machine.specs.inner.Tables.{size_at}
 use Rattle.ic_machine.specs.lemmas.FiringKeeps.{all_append}
 use Rattle.ic_machine.proofs.Fresh.{agent_tags}
-use Rattle.ic_machine.proofs.Heaps.{as_many}
 use Rattle.ic_machine.proofs.InUse.{as_used, made_in_use, used_at}
-use Rattle.ic_machine.proofs.Making.{constant_words, filled_count, made_fresh, made_steps, name_words, plan_links}
-use Rattle.ic_machine.proofs.Spare.{blocks_fewer, blocks_left}
+use Rattle.ic_machine.proofs.Making.{constant_words, made_fresh, made_steps, name_words, plan_links}
+use Rattle.ic_machine.proofs.Registers.{written, written_twice}
 use Rattle.ic_machine.proofs.tables.Tables.make.Goals as goal
+use Rattle.ic_machine.proofs.tables.Tables.make.Goals.{After-deref_mut-2, After-deref-3}
 
-pub make_agents-requires-clause-made : goal.make_agents-requires-clause-made
-make_agents-requires-clause-made g c =
-    let t : Tables = c.args.self.now in
-    let p : Planned = planned c.args.plan.now in
-    let ready = c.requires.ready in
-    let opened = c.open_names.ensures.opened in
-    let symbols : ℕ = length t.heaps.items in
-    let arities : length (arities_of t.heaps.items) ≡ symbols = length-map t.heaps.items (λ b. b.arity) in
-    let a = ap length ready.filled ∙ filled_count symbols ready.args in
-    let b = ap length opened.pushed ∙ length-append t.registers.items opened.names in
-    let n : length opened.names ≡ p.names = opened.count in
-    let filled : length (arities_of t.heaps.items) + length ready.args + p.names
-    ≡ length c.open_names.new.registers.items = omega arith in
-    subst (λ (l : List Make). AreMade (arities_of t.heaps.items) (length c.open_names.new.registers.items) (map made_of l))
-    (sym c.deref.ensures.value)
-    (subst (λ (k : ℕ). AreMade (arities_of t.heaps.items) k p.made) filled ready.plan.made)
+-- ---- the words in the registers
 
-pub make_agents-requires-clause-words : goal.make_agents-requires-clause-words
-make_agents-requires-clause-words g c =
+module _ (g : _) (c : After-deref_mut-2 g) where
+  -- the names that are opened are after those that were filled
+  opened : Opened c.args.plan.now.names c.args.self.now.names.entries c.open_into-opened.new.names.entries
+      (take c.args.filled c.args.self.now.registers.items) (take c.open_into-opened.result c.open_into-opened.new.registers)
+  opened =
+      subst (λ (l : List Word). Opened c.args.plan.now.names c.args.self.now.names.entries c.open_into-opened.new.names.entries
+      (take c.args.filled l) (take c.open_into-opened.result c.open_into-opened.new.registers))
+      c.deref_mut.ensures.value c.open_into-opened.ensures.opened
+
+  wide : length c.open_into-opened.new.registers ≡ length c.args.self.now.registers.items
+  wide = c.open_into-opened.ensures.len ∙ ap length c.deref_mut.ensures.value
+
+  second : c.deref_mut-2.result.now ≡ c.open_into-opened.new.registers
+  second = c.deref_mut-2.ensures.value ∙ written c.args.self.now.registers c.open_into-opened.new.registers wide
+
+module _ (g : _) (c : After-deref-3 g) where
+  -- and the agents after these
+  makes : Makes (planned c.args.plan.now).made (heaps_pieces 0 c.args.self.now.heaps.items)
+      (heaps_pieces 0 c.make_into-made.new.heaps.items) (take c.open_into-opened.result c.open_into-opened.new.registers)
+      (take c.make_into-made.result c.make_into-made.new.registers)
+  makes =
+      subst (λ (l : List Make). Makes (map made_of l) (heaps_pieces 0 c.args.self.now.heaps.items)
+      (heaps_pieces 0 c.make_into-made.new.heaps.items) (take c.open_into-opened.result c.open_into-opened.new.registers)
+      (take c.make_into-made.result c.make_into-made.new.registers)) c.deref.ensures.value
+      (subst (λ (l : List Word). Makes (map made_of c.deref.result.now) (heaps_pieces 0 c.args.self.now.heaps.items)
+      (heaps_pieces 0 c.make_into-made.new.heaps.items) (take c.open_into-opened.result l)
+      (take c.make_into-made.result c.make_into-made.new.registers))
+      (second g (goal.at.link_all-requires-clause-links g c).After-deref_mut-2) c.make_into-made.ensures.made)
+
+  third : take c.make_into-made.result c.deref-3.result.now ≡ take c.make_into-made.result c.make_into-made.new.registers
+  third =
+      let d = (goal.at.link_all-requires-clause-links g c).After-deref_mut-2 in
+      let len : length c.make_into-made.new.registers ≡ length c.open_into-opened.new.registers =
+      c.make_into-made.ensures.len ∙ ap length (second g d) in
+      ap (take c.make_into-made.result) (c.deref-3.ensures.value
+      ∙ written_twice c.args.self.now.registers c.open_into-opened.new.registers c.make_into-made.new.registers (wide g d) len)
+
+  -- all that are filled then
+  filled : take c.make_into-made.result c.make_into-made.new.registers
+      ≡ take c.args.filled c.args.self.now.registers.items
+      ++ ((opened g (goal.at.link_all-requires-clause-links g c).After-deref_mut-2).names ++ makes.places)
+  filled =
+      let o = opened g (goal.at.link_all-requires-clause-links g c).After-deref_mut-2 in
+      makes.pushed ∙ (ap (λ (l : List Word). l ++ makes.places) o.pushed
+      ∙ append_assoc (take c.args.filled c.args.self.now.registers.items) o.names makes.places)
+
+pub make_into-made-requires-clause-words : goal.make_into-made-requires-clause-words
+make_into-made-requires-clause-words g c =
     let t : Tables = c.args.self.now in
     let ready = c.requires.ready in
-    let opened = c.open_names.ensures.opened in
+    let o = opened g c in
     let symbols : ℕ = length t.heaps.items in
-    let is = opened.pushed ∙ ap (λ (l : List Word). l ++ opened.names) ready.filled in
+    let is = ap (take c.open_into-opened.result) (second g c) ∙ (o.pushed ∙ ap (λ (l : List Word). l ++ o.names) ready.words_are) in
     subst (λ (l : List Word). AllByRecursion (λ w. w.tag < IDLE) l) (sym is)
-    (all_append (λ w. w.tag < IDLE) (constants symbols ++ ready.args) opened.names
+    (all_append (λ w. w.tag < IDLE) (constants symbols ++ ready.args) o.names
     (all_append (λ w. w.tag < IDLE) (constants symbols) ready.args (constant_words symbols ready.symbols) ready.words)
-    (name_words opened.names opened.tags))
+    (name_words o.names o.tags))
 
 pub link_all-requires-clause-links : goal.link_all-requires-clause-links
 link_all-requires-clause-links g c =
     let t : Tables = c.args.self.now in
     let p : Planned = planned c.args.plan.now in
     let ready = c.requires.ready in
-    let opened = c.open_names.ensures.opened in
-    let makes = c.make_agents.ensures.made in
+    let o = opened g (goal.at.link_all-requires-clause-links g c).After-deref_mut-2 in
+    let m = makes g c in
     let symbols : ℕ = length t.heaps.items in
     let arities : length (arities_of t.heaps.items) ≡ symbols = length-map t.heaps.items (λ b. b.arity) in
-    let made = makes.count ∙ ap (λ (l : List Make). length (map made_of l)) c.deref.ensures.value in
-    let is = makes.pushed
-    ∙ (ap (λ (l : List Word). l ++ makes.places) (opened.pushed ∙ ap (λ (l : List Word). l ++ opened.names) ready.filled)
-    ∙ (append_assoc (constants symbols ++ ready.args) opened.names makes.places
-    ∙ (append_assoc (constants symbols) ready.args (opened.names ++ makes.places)
-    ∙ ap (λ (k : ℕ). constants k ++ (ready.args ++ (opened.names ++ makes.places))) (sym arities)))) in
-    subst (λ (l : List Link). AreLinks l c.deref-3.result.now c.open_names.new.names.entries)
+    let is = filled g c
+    ∙ (ap (λ (l : List Word). l ++ (o.names ++ m.places)) ready.words_are
+    ∙ (append_assoc (constants symbols) ready.args (o.names ++ m.places)
+    ∙ ap (λ (k : ℕ). constants k ++ (ready.args ++ (o.names ++ m.places))) (sym arities))) in
+    subst (λ (l : List Link). AreLinks l (take c.make_into-made.result c.deref-3.result.now) c.open_into-opened.new.names.entries)
     (sym c.deref-2.ensures.value)
-    (subst (λ (l : List Word). AreLinks p.links l c.open_names.new.names.entries) (sym (c.deref-3.ensures.value ∙ is))
-    (plan_links (arities_of t.heaps.items) p ready.args opened.names makes.places t.names.entries
-    c.open_names.new.names.entries ready.plan opened.count made
-    (agent_tags (map made_of c.deref.result.now) makes.places makes.tags)
-    (subst (λ (l : List Word). AllByRecursion (λ w. w.tag < IDLE) l) is c.make_agents.ensures.words)
-    opened.pieces ready.named))
+    (subst (λ (l : List Word). AreLinks p.links l c.open_into-opened.new.names.entries) (sym (third g c ∙ is))
+    (plan_links (arities_of t.heaps.items) p ready.args o.names m.places t.names.entries
+    c.open_into-opened.new.names.entries ready.plan o.count m.count (agent_tags p.made m.places m.tags)
+    (subst (λ (l : List Word). AllByRecursion (λ w. w.tag < IDLE) l) is c.make_into-made.ensures.words)
+    o.pieces ready.named))
 
 pub returns-clause-made : goal.returns-clause-made
 returns-clause-made g c =
+    let d = (goal.at.returns-clause-made g c).After-deref-3 in
+    let e = (goal.at.returns-clause-made g c).After-deref_mut-2 in
     let t : Tables = c.args.self.now in
     let p : Planned = planned c.args.plan.now in
-    let r0 : List Word = t.registers.items in
-    let r1 : List Word = c.open_names.new.registers.items in
-    let r2 : List Word = c.make_agents.new.registers.items in
+    let all : List Word = c.make_into-made.new.registers in
+    let r0 : List Word = take c.args.filled t.registers.items in
+    let r1 : List Word = take c.open_into-opened.result c.open_into-opened.new.registers in
+    let r2 : List Word = take c.make_into-made.result all in
     let ns : List Word = t.names.entries in
-    let ns' : List Word = c.open_names.new.names.entries in
+    let ns' : List Word = c.open_into-opened.new.names.entries in
     let ns'' : List Word = c.link_all.new.names.entries in
     let hs : List Blocks = t.heaps.items in
-    let hs' : List Blocks = c.make_agents.new.heaps.items in
+    let hs' : List Blocks = c.make_into-made.new.heaps.items in
     let ps : List Equation = t.pending.items in
     let qs : List Equation = c.link_all.new.pending.items in
-    let opened : Opened p.names ns ns' r0 r1 = c.open_names.ensures.opened in
-    let makes = subst (λ (l : List Make). Makes (map made_of l) (heaps_pieces 0 hs) (heaps_pieces 0 hs') r1 r2)
-    c.deref.ensures.value c.make_agents.ensures.made in
-    let is = makes.pushed ∙ (ap (λ (l : List Word). l ++ makes.places) opened.pushed
-    ∙ append_assoc r0 opened.names makes.places) in
+    let o : Opened p.names ns ns' r0 r1 = opened g e in
+    let m : Makes p.made (heaps_pieces 0 hs) (heaps_pieces 0 hs') r1 r2 = makes g d in
+    let is : r2 ≡ r0 ++ (o.names ++ m.places) = filled g d in
+    let last = written_twice t.registers c.open_into-opened.new.registers all (wide g e)
+    (c.make_into-made.ensures.len ∙ ap length (second g e)) in
+    let many : length c.deref.result.now ≡ length p.made =
+    ap length c.deref.ensures.value ∙ sym (length-map c.args.plan.now.makes.items made_of) in
+    let end : c.args.filled + (p.names + length p.made) ≡ c.make_into-made.result =
+    omega (arith, c.open_into-opened.ensures.filled, c.make_into-made.ensures.filled) in
     record {
-      names = opened.names;
-      made = makes.places;
-      names_count = opened.count;
-      made_count = makes.count;
-      name_tags = opened.tags;
-      made_tags = makes.tags;
-      registers = is;
-      fresh = λ rest. made_fresh p.names p.made ns ns' hs (heaps_pieces 0 hs') r0 r1 r2 ps rest opened makes;
+      names = o.names;
+      made = m.places;
+      names_count = o.count;
+      made_count = m.count;
+      name_tags = o.tags;
+      made_tags = m.tags;
+      registers = (λ i. take (end i) (last i)) ∙ is;
+      fresh = λ rest. made_fresh p.names p.made ns ns' hs (heaps_pieces 0 hs') r0 r1 r2 ps rest o m;
       steps = λ q rest. subst (λ (l : List Word). Steps q []
-          (pieces_made p l opened.names makes.places
+          (pieces_made p l o.names m.places
           ++ (names_pieces 0 ns ++ (heaps_pieces 0 hs ++ (map equated_of ps ++ rest))))
           (names_pieces 0 ns'' ++ (heaps_pieces 0 hs' ++ (map equated_of qs ++ rest)))) is
-          (made_steps q p p.names ns ns' ns'' hs hs' r0 r1 r2 (map equated_of ps) (map equated_of qs) rest opened makes
+          (made_steps q p p.names ns ns' ns'' hs hs' r0 r1 r2 (map equated_of ps) (map equated_of qs) rest o m
           (λ others. subst (λ (l : List Link). Steps q []
           (map (linked r2) l ++ (names_pieces 0 ns' ++ (map equated_of ps ++ others)))
           (names_pieces 0 ns'' ++ (map equated_of qs ++ others))) c.deref-2.ensures.value
           (subst (λ (l : List Word). Steps q []
           (map (linked l) c.deref-2.result.now ++ (names_pieces 0 ns' ++ (map equated_of ps ++ others)))
-          (names_pieces 0 ns'' ++ (map equated_of qs ++ others))) c.deref-3.ensures.value
+          (names_pieces 0 ns'' ++ (map equated_of qs ++ others))) (third g d)
           (c.link_all.ensures.steps q others))));
       bare = λ q rest more is'. subst (λ (l : List Word). Steps q []
-          (pieces_made p l opened.names makes.places ++ (names_pieces 0 ns ++ (heaps_pieces 0 hs ++ rest)))
+          (pieces_made p l o.names m.places ++ (names_pieces 0 ns ++ (heaps_pieces 0 hs ++ rest)))
           (names_pieces 0 ns'' ++ (heaps_pieces 0 hs' ++ (map equated_of more ++ rest)))) is
-          (made_steps q p p.names ns ns' ns'' hs hs' r0 r1 r2 [] (map equated_of more) rest opened makes
+          (made_steps q p p.names ns ns' ns'' hs hs' r0 r1 r2 [] (map equated_of more) rest o m
           (λ others. subst (λ (l : List Link). Steps q []
           (map (linked r2) l ++ (names_pieces 0 ns' ++ others)) (names_pieces 0 ns'' ++ (map equated_of more ++ others)))
           c.deref-2.ensures.value
           (subst (λ (l : List Word). Steps q []
           (map (linked l) c.deref-2.result.now ++ (names_pieces 0 ns' ++ others))
-          (names_pieces 0 ns'' ++ (map equated_of more ++ others))) c.deref-3.ensures.value
+          (names_pieces 0 ns'' ++ (map equated_of more ++ others))) (third g d)
           (c.link_all.ensures.bare q others more is'))));
-      places = λ kind rest. as_used t (record { names = c.link_all.new.names; heaps = c.make_agents.new.heaps; pending = c.link_all.new.pending; registers = c.make_agents.new.registers; spare = t.spare; stamps = c.link_all.new.stamps }) ns' hs' (c.link_all.ensures.names ∙ c.open_names.ensures.places)
-          c.make_agents.ensures.places kind
+      places = λ kind rest. as_used t (record { names = c.link_all.new.names; heaps = c.make_into-made.new.heaps; pending = c.link_all.new.pending; registers = with_items (with_items t.registers c.open_into-opened.new.registers) all; spare = t.spare; stamps = c.link_all.new.stamps }) ns' hs' (c.link_all.ensures.names ∙ c.open_into-opened.ensures.places)
+          c.make_into-made.ensures.places kind
           ∙ ap (max (size_at kind t))
-          (sym (subst (λ (l : List Word). in_use kind (pieces_made p l opened.names makes.places
+          (sym (subst (λ (l : List Word). in_use kind (pieces_made p l o.names m.places
           ++ (names_pieces 0 ns ++ (heaps_pieces 0 hs ++ (map equated_of ps ++ map equated_of rest)))) ≡ used_at kind ns' hs') is
-          (made_in_use kind p p.names ns ns' hs hs' r0 r1 r2 ps rest opened makes)));
-    }
-
-pub returns-clause-room : goal.returns-clause-room
-returns-clause-room g c = λ n h.
-    let t : Tables = c.args.self.now in
-    let p : Planned = planned c.args.plan.now in
-    let hs : List Blocks = t.heaps.items in
-    let hs' : List Blocks = c.make_agents.new.heaps.items in
-    let makes : ℕ = length c.deref.result.now in
-    let made = ap length c.deref.ensures.value ∙ sym (length-map c.args.plan.now.makes.items made_of) in
-    let links : length c.deref-2.result.now ≡ length p.links = ap length c.deref-2.ensures.value in
-    let many : length hs' ≡ length hs = as_many hs hs' c.make_agents.ensures.arities in
-    let opened_few = c.open_names.ensures.few in
-    let opened_memory = c.open_names.ensures.memory in
-    let linked_names = c.link_all.ensures.names in
-    let linked_memory = c.link_all.ensures.memory in
-    let longer = c.link_all.ensures.len in
-    let pending_memory = c.link_all.ensures.capacity in
-    let names : length t.names.entries + (n + (p.names + length p.made + length p.links)) ≤ t.names.capacity = h.names in
-    let few : length t.names.entries + (n + (p.names + length p.made + length p.links)) < 2 ^ 32 = h.few in
-    let pending : length t.pending.items + (n + (p.names + length p.made + length p.links)) ≤ t.pending.capacity = h.pending in
-    record {
-      names = omega arith;
-      few = omega arith;
-      pending = omega arith;
-      heaps = λ s lt. blocks_left n makes (table hs s) (table hs' s) (c.make_agents.ensures.sizes s)
-          (blocks_fewer (n + makes) (n + (p.names + length p.made + length p.links)) (table hs s) (omega arith)
-          (h.heaps s (omega arith)));
+          (made_in_use kind p p.names ns ns' hs hs' r0 r1 r2 ps rest o m)));
     }

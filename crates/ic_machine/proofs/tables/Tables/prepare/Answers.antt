@@ -18,7 +18,9 @@ returns-then-arguments-size-clause-memory c =
     let made : length p.made ≡ length c.args.plan.now.makes.items = length-map c.args.plan.now.makes.items made_of in
     let makes = c.args.plan.now.makes.ok.0 in
     let links = c.args.plan.now.links.ok.0 in
-    let registers = c.truncate.new.self.ok.0 in
+    let registers = t.registers.ok.0 in
+    let heaps = t.heaps.ok.0 in
+    let wide = c.requires.wide in
     let names_room : length t.names.entries + t.spare ≤ t.names.capacity = room.names in
     let few : length t.names.entries + t.spare < 2 ^ 32 = room.few in
     let pending_room : length t.pending.items + t.spare ≤ t.pending.capacity = room.pending in
@@ -26,7 +28,7 @@ returns-then-arguments-size-clause-memory c =
       names = omega (arith, c.if-size-self.true, c.len.ensures);
       few = omega (arith, c.if-size-self.true, c.len.ensures);
       pending = omega (arith, c.if-size-self.true, c.if-links-self.true, c.len.ensures, c.len-links.ensures);
-      registers = omega (arith, c.if-arguments-size.true, c.len.ensures, c.capacity.ensures, c.len-3.ensures);
+      registers = omega (arith, c.if-arguments-size.true, c.len.ensures, c.len-2.ensures, c.len-3.ensures);
       heaps = room_for_plan t.spare p t.heaps.items (omega (arith, c.if-size-self.true, c.len.ensures)) room.heaps c.requires.known;
     }
 

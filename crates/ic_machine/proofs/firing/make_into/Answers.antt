@@ -1,7 +1,7 @@
 use Rattle.std.proofs.Common.{◌≡◌, ◌+◌, ◌-◌, ◌*◌, ◌^◌, ◌<◌, ◌≤◌, ℕ, suc, List, [], ◌∷◌, ◌++◌, length, map, max, take, slice_get, slice_set, sum_by, zero-add, ap, sym, subst, ◌∙◌, refl, arith}
 use Rattle.std.specs.List.{AllByRecursion}
 use Rattle.std.proofs.Math.Nat.{max-eq_left, suc-mul}
-use Rattle.std.proofs.lemmas.List.{length-map}
+use Rattle.std.proofs.lemmas.List.{length-map, length-set, length-take-le, take_more_set}
 use Rattle.ic_arena.specs.declared.word.Word.{Word}
 use Rattle.ic_arena.specs.declared.word.TheConstants.{IDLE, GIVEN}
 use Rattle.ic_arena.specs.Word.{agent_word}
@@ -16,8 +16,8 @@ use Rattle.ic_machine.proofs.Heaps.{arities_set, arity_known, room_taken, set_at
 use Rattle.ic_machine.proofs.InUse.{greatest_on, one_longer, one_more}
 use Rattle.ic_machine.proofs.Spare.{grown_set}
 use Rattle.ic_machine.proofs.Standing.{blocks_few}
-use Rattle.ic_machine.proofs.firing.make_agents.Goals as goal
-use Rattle.ic_machine.proofs.firing.make_agents.Goals.{After-deref-in-loop-make}
+use Rattle.ic_machine.proofs.firing.make_into.Goals as goal
+use Rattle.ic_machine.proofs.firing.make_into.Goals.{After-deref}
 
 -- the symbol of an agent that is made has a table of its arity
 known : (h0 hs : List Blocks) (n : ℕ) (m : Made) → arities_of hs ≡ arities_of h0 → IsMadeOf (arities_of h0) n m
@@ -44,7 +44,7 @@ room_for_one hs n i m lt h =
 pub index_mut-heap-requires : goal.index_mut-heap-requires
 index_mut-heap-requires c =
     let h0 : List Blocks = c.args.heaps.now.items in
-    let filled : ℕ = length c.args.registers.now.items in
+    let filled : ℕ = c.args.filled in
     let there = known h0 c.loop-make.heaps.items (filled + c.loop-make.make-index) (made_of c.make-item.result)
     c.loop-make.invariant.arities (planned_now (arities_of h0) filled c.loop-make.make-index c.args.makes.now c.make-item.result
     c.requires.made c.loop-make-test.true c.make-item.is) in
@@ -54,11 +54,11 @@ index_mut-heap-requires c =
 
 -- ---- the agent that is made next
 
-module _ (c : After-deref-in-loop-make) where
-  plan : IsMadeOf (arities_of c.args.heaps.now.items) (length c.args.registers.now.items + c.loop-make.make-index)
+module _ (c : After-deref) where
+  plan : IsMadeOf (arities_of c.args.heaps.now.items) (c.args.filled + c.loop-make.make-index)
       (made_of c.make-item.result)
   plan =
-      planned_now (arities_of c.args.heaps.now.items) (length c.args.registers.now.items) c.loop-make.make-index
+      planned_now (arities_of c.args.heaps.now.items) c.args.filled c.loop-make.make-index
       c.args.makes.now c.make-item.result c.requires.made c.loop-make-test.true c.make-item.is
 
   there : (c.make-item.result.symbol < length c.loop-make.heaps.items)
@@ -91,14 +91,15 @@ put-block-requires-clause-some c =
 
 pub put-block-requires-clause-filled : goal.put-block-requires-clause-filled
 put-block-requires-clause-filled c =
-    let filled : ℕ = length c.args.registers.now.items in
-    let before = c.args.registers.now.ok.0 in
-    let now = c.loop-make.registers.ok.0 in
+    let next : ℕ = c.loop-make.next in
+    let rs : List Word = c.loop-make.registers in
+    let is = c.loop-make.invariant.next in
     let len = c.loop-make.invariant.len in
-    let read = ap length c.deref-in-loop-make.ensures.value in
-    subst (λ (l : List ℕ). AllByRecursion (λ k. k < length c.deref-in-loop-make.result.now) l)
-    (sym c.deref.ensures)
-    (all_of (λ k. k < filled + c.loop-make.make-index) (λ k. k < length c.deref-in-loop-make.result.now)
+    let room = c.requires.registers in
+    let there : next ≤ length rs = omega (arith, c.loop-make-test.true) in
+    let many = length-take-le next rs there in
+    subst (λ (l : List ℕ). AllByRecursion (λ k. k < length (take next rs)) l) (sym c.deref.ensures)
+    (all_of (λ k. k < c.args.filled + c.loop-make.make-index) (λ k. k < length (take next rs))
     c.make-item.result.operands.items (λ k lt. omega arith) (plan c).within)
 
 pub put-block-requires-clause-room : goal.put-block-requires-clause-room
@@ -109,7 +110,7 @@ put-block-requires-clause-few c = (one_fits c).1
 
 pub agent-requires : goal.agent-requires
 agent-requires c =
-    let below = (there (goal.at.agent-requires c).After-deref-in-loop-make).0 in
+    let below = (there (goal.at.agent-requires c).After-deref).0 in
     let len = same_count c.args.heaps.now.items c.loop-make.heaps.items c.loop-make.invariant.arities in
     let few : length c.args.heaps.now.items < GIVEN = c.requires.symbols in
     omega arith
@@ -118,8 +119,10 @@ pub loop-make-preserved : goal.loop-make-preserved
 loop-make-preserved c =
     let hs : List Blocks = c.loop-make.heaps.items in
     let h0 : List Blocks = c.args.heaps.now.items in
-    let r0 : List Word = c.args.registers.now.items in
-    let rs : List Word = c.loop-make.registers.items in
+    let k : ℕ = c.loop-make.next in
+    let all : List Word = c.loop-make.registers in
+    let r0 : List Word = take c.args.filled c.args.registers.now in
+    let rs : List Word = take k all in
     let ms : List Make = c.args.makes.now in
     let i : ℕ = c.loop-make.make-index in
     let item : Make = c.make-item.result in
@@ -128,21 +131,21 @@ loop-make-preserved c =
     let b' : Blocks = c.put-block.new.self in
     let w : Word = agent_word s c.put-block.result in
     let lt : i < length ms = c.loop-make-test.true in
-    let before = c.args.registers.now.ok.0 in
-    let now = c.loop-make.registers.ok.0 in
     let len = c.loop-make.invariant.len in
-    let d = (goal.at.loop-make-preserved c).After-deref-in-loop-make in
+    let next = c.loop-make.invariant.next in
+    let fits = c.requires.registers in
+    let place : k < length all = omega arith in
+    let many : length rs ≡ k = length-take-le k all (omega arith) in
+    let d = (goal.at.loop-make-preserved c).After-deref in
     let below : s < length hs = (there d).0 in
     let count : length hs ≡ length h0 = same_count h0 hs c.loop-make.invariant.arities in
     let few : length h0 < GIVEN = c.requires.symbols in
     let same : b ≡ table hs s = same d in
-    let pushed = c.push_reserved.ensures.items ∙ ap (λ (v : Word). rs ++ v ∷ []) c.agent.ensures in
+    let pushed = take_more_set all k c.agent.result place ∙ ap (λ (v : Word). rs ++ v ∷ []) c.agent.ensures in
     let block = subst (λ (l : List ℕ). Replaced [] (agent_of w (map (register rs) l) ∷ [])
     (blocks_pieces s (table hs s)) (blocks_pieces s b')) c.deref.ensures
-    (subst (λ (l : List Word). Replaced [] (agent_of w (map (register l) c.deref.result.now) ∷ [])
-    (blocks_pieces s (table hs s)) (blocks_pieces s b')) c.deref-in-loop-make.ensures.value
-    (subst (λ (x : Blocks). Replaced [] (agent_of w (map (register c.deref-in-loop-make.result.now) c.deref.result.now) ∷ [])
-    (blocks_pieces s x) (blocks_pieces s b')) same (c.put-block.ensures.made s))) in
+    (subst (λ (x : Blocks). Replaced [] (agent_of w (map (register rs) c.deref.result.now) ∷ [])
+    (blocks_pieces s x) (blocks_pieces s b')) same (c.put-block.ensures.made s)) in
     let none : sum_by (room w) (heaps_pieces 0 hs) ≡ 0 =
     table_room w hs 0 s s (sym (zero-add s)) refl
     ∙ subst (λ (x : Blocks). sum_by (room w) (blocks_pieces s x) ≡ 0) same (c.put-block.ensures.fresh s) in
@@ -150,8 +153,8 @@ loop-make-preserved c =
     (heaps_pieces 0 (slice_set hs s b')) r0 (rs ++ w ∷ []) =
     makes_more (map made_of (take i ms)) (made_of item) (heaps_pieces 0 h0) (heaps_pieces 0 hs)
     (heaps_pieces 0 (slice_set hs s b')) r0 rs w c.loop-make.invariant.made
-    (earlier_within (arities_of h0) (length r0) i (length rs) ms c.requires.made (omega arith) (omega arith))
-    (all_of (λ k. k < length r0 + i) (λ k. k < length rs) item.operands.items (λ k le. omega arith) (plan d).within)
+    (earlier_within (arities_of h0) c.args.filled i (length rs) ms c.requires.made (omega arith) (omega arith))
+    (all_of (λ j. j < c.args.filled + i) (λ j. j < length rs) item.operands.items (λ j le. omega arith) (plan d).within)
     (table_replaced hs 0 s s b' [] (agent_of w (map (register rs) item.operands.items) ∷ []) (sym (zero-add s))
     (there d).0 block) none refl in
     let arity : b'.arity ≡ (table hs s).arity = c.put-block.ensures.arity ∙ ap (λ (x : Blocks). x.arity) same in
@@ -163,8 +166,9 @@ loop-make-preserved c =
     let capacity = c.put-block.ensures.capacity ∙ ap (λ (x : Blocks). x.capacity) same in
     let left : length ms - i ≡ suc (length ms - (i + 1)) = omega arith in
     record {
+      next = omega arith;
       made = subst (λ (l : List Made). Makes l (heaps_pieces 0 h0) (heaps_pieces 0 (slice_set hs s b')) r0
-          c.push_reserved.new.self.items) (sym (front_more i ms item lt c.make-item.is))
+          (take (k + 1) (slice_set all k c.agent.result))) (sym (front_more i ms item lt c.make-item.is))
           (subst (λ (l : List Word). Makes (map made_of (take i ms) ++ made_of item ∷ []) (heaps_pieces 0 h0)
           (heaps_pieces 0 (slice_set hs s b')) r0 l) (sym pushed) made);
       words = subst (λ (l : List Word). AllByRecursion (λ v. v.tag < IDLE) l) (sym pushed)
@@ -173,27 +177,26 @@ loop-make-preserved c =
       room = all_of (HasRoom hs (length ms - i)) (HasRoom (slice_set hs s b') (length ms - (i + 1)))
           (map made_of ms)
           (λ m h. room_taken hs s (length ms - (i + 1)) b' m arity fewer shorter capacity
-          (subst (λ (k : ℕ). HasRoom hs k m) left h)) c.loop-make.invariant.room;
+          (subst (λ (j : ℕ). HasRoom hs j m) left h)) c.loop-make.invariant.room;
       sizes = grown_set h0 hs i s b' c.loop-make.invariant.sizes arity fewer shorter capacity;
-      places = set_at (λ k x. x.count ≡ max (table h0 k).count (length (blocks_pieces k x))) hs s b'
+      places = set_at (λ j x. x.count ≡ max (table h0 j).count (length (blocks_pieces j x))) hs s b'
           c.loop-make.invariant.places
           (greatest_on (table hs s).count b'.count (table h0 s).count (length (blocks_pieces s (table hs s)))
           (length (blocks_pieces s b')) (c.loop-make.invariant.places s) counted (omega arith));
-      len = omega (arith, c.push_reserved.ensures.len);
-      capacity = c.push_reserved.ensures.capacity ∙ c.loop-make.invariant.capacity;
+      len = length-set all k c.agent.result ∙ len;
     }
 
 pub loop-make-init : goal.loop-make-init
 loop-make-init c =
     let hs : List Blocks = c.args.heaps.now.items in
     record {
-      made = makes_none (heaps_pieces 0 hs) c.args.registers.now.items;
+      next = omega arith;
+      made = makes_none (heaps_pieces 0 hs) (take c.args.filled c.args.registers.now);
       words = c.requires.words;
       arities = refl;
       room = subst (λ (n : ℕ). AllByRecursion (HasRoom hs n) (map made_of c.args.makes.now))
           (let same : length c.args.makes.now ≡ length c.args.makes.now - 0 = omega arith in same) c.requires.room;
       sizes = λ s. record { arity = refl; count = omega arith; len = omega arith; capacity = refl };
       places = λ s. sym (max-eq_left (blocks_few s (table hs s).arity 0 (table hs s).count (table hs s).words));
-      len = omega arith;
-      capacity = refl;
+      len = refl;
     }
