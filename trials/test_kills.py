@@ -3,7 +3,7 @@
 import signal
 import time
 
-from known import LOOP, drawn_line
+from known import LOOP, drawn_line, name_text
 from program import PATIENCE, Server, heeds_signals, run
 from stops import Stops
 
@@ -93,12 +93,14 @@ class Kills(Stops):
             self.equals(ran.command, f"answers to runs, {came}, at {rounds} rounds", True, came >= least)
 
     def test_rounds_are_kept_in_the_midst_of_one_run(self):
-        """Not at its end alone: a look at the disk meanwhile finds some of them, and no others than each so many."""
+        """Not at its end alone: a look at the disk meanwhile finds some of them, and no others than each so many. Of many pairs, so that
+        the run lasts."""
+        pairs = ",".join(f"A({it})=B({it})" for it in map(name_text, range(300)))
         for every in (1, 7):
             for number in range(30):
                 disk = self.disk(f"{every}.{number}.disk")
                 with Server(disk, "--every", every) as server:
-                    self.answers(server, f"submit loop {LOOP.text}", "accepted")
+                    self.answers(server, f"submit loop {{A(B(x))><B(A(x))}} <|{pairs}>", "accepted")
                     server.send(["run 1000"])
                     rounds, end = 0, time.monotonic() + PATIENCE
                     while rounds == 0 and time.monotonic() < end:
