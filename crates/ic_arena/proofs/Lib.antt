@@ -4,3 +4,4 @@ pub mod Found
 pub mod Full
 pub mod Front
 pub mod HeapPut
+pub mod HeapFreed

@@ -111,19 +111,16 @@ impl Heap {
             ≡ max self.old.count (length (blocks_pieces s self.new)) }
         ensures capacity { self.new.capacity ≡ self.old.capacity }
     {
+        let arity = operands.len();
+        let words = self.words.as_mut_slice();
         let mut block = self.free;
         if block == NONE {
             block = self.count;
             self.count += 1;
         } else {
-            self.free = self.words[block as usize * self.arity as usize].index;
+            self.free = words[block as usize * arity].index;
         }
-        write(
-            &mut self.words,
-            block as usize * self.arity as usize,
-            operands,
-            registers,
-        );
+        write(words, block as usize * arity, operands, registers);
         block
     }
 
@@ -177,9 +174,16 @@ impl Heap {
         ensures words { length self.new.words ≡ length self.old.words }
         ensures capacity { self.new.capacity ≡ self.old.capacity }
     {
-        copy(registers, filled, self.get(block));
-        self.give_back(block);
-        filled + self.arity as usize
+        let arity = self.arity as usize;
+        let at = block as usize * arity;
+        let words = self.words.as_mut_slice();
+        copy(registers, filled, &words[at..at + arity]);
+        words[at] = Word {
+            tag: FREE,
+            index: self.free,
+        };
+        self.free = block;
+        filled + arity
     }
 
     /// Marks the block of an agent as free.
@@ -203,25 +207,29 @@ impl Heap {
     }
 }
 
-/// Writes the words of registers, from a place on. Up to three are written without a loop.
+/// Writes the words of registers, from a place on. Up to three are read before the first one is
+/// written, without a loop.
 #[inline(always)]
-fn write(words: &mut Vec<Word>, at: usize, operands: &[u32], registers: &[Word])
-    requires there { at + length operands.now ≤ vec_len words.old }
+fn write(words: &mut [Word], at: usize, operands: &[u32], registers: &[Word])
+    requires there { at + length operands.now ≤ length words.old }
     requires filled { AllByRecursion (λ k. k < length registers.now) operands.now }
-    ensures written { words.new.items ≡ take at words.old.items
+    ensures written { words.new ≡ take at words.old
         ++ (map (register registers.now) operands.now
-        ++ drop (at + length operands.now) words.old.items) }
+        ++ drop (at + length operands.now) words.old) }
 {
     match operands {
         [only] => words[at] = registers[*only as usize],
         [first, second] => {
-            words[at] = registers[*first as usize];
-            words[at + 1] = registers[*second as usize];
+            let (first, second) = (registers[*first as usize], registers[*second as usize]);
+            words[at] = first;
+            words[at + 1] = second;
         }
         [first, second, third] => {
-            words[at] = registers[*first as usize];
-            words[at + 1] = registers[*second as usize];
-            words[at + 2] = registers[*third as usize];
+            let (first, second) = (registers[*first as usize], registers[*second as usize]);
+            let third = registers[*third as usize];
+            words[at] = first;
+            words[at + 1] = second;
+            words[at + 2] = third;
         }
         _ => write_each(words, at, operands, registers),
     }
@@ -230,12 +238,12 @@ fn write(words: &mut Vec<Word>, at: usize, operands: &[u32], registers: &[Word])
 /// The same for any number of words.
 #[cold]
 #[inline(never)]
-fn write_each(words: &mut Vec<Word>, at: usize, operands: &[u32], registers: &[Word])
-    requires there { at + length operands.now ≤ vec_len words.old }
+fn write_each(words: &mut [Word], at: usize, operands: &[u32], registers: &[Word])
+    requires there { at + length operands.now ≤ length words.old }
     requires filled { AllByRecursion (λ k. k < length registers.now) operands.now }
-    ensures written { words.new.items ≡ take at words.old.items
+    ensures written { words.new ≡ take at words.old
         ++ (map (register registers.now) operands.now
-        ++ drop (at + length operands.now) words.old.items) }
+        ++ drop (at + length operands.now) words.old) }
 {
     let mut place = at;
     for operand in operands {
@@ -279,7 +287,7 @@ fn push_each(words: &mut Vec<Word>, more: &[Word])
     }
 }
 
-/// Copies words over those from a place on. Up to three are copied without a loop.
+/// Copies words over those from a place on. Up to three are read before the first one is written, without a loop.
 #[inline(always)]
 fn copy(words: &mut [Word], at: usize, more: &[Word])
     requires there { at + length more.now ≤ length words.old }
@@ -289,13 +297,15 @@ fn copy(words: &mut [Word], at: usize, more: &[Word])
     match more {
         [only] => words[at] = *only,
         [first, second] => {
-            words[at] = *first;
-            words[at + 1] = *second;
+            let (first, second) = (*first, *second);
+            words[at] = first;
+            words[at + 1] = second;
         }
         [first, second, third] => {
-            words[at] = *first;
-            words[at + 1] = *second;
-            words[at + 2] = *third;
+            let (first, second, third) = (*first, *second, *third);
+            words[at] = first;
+            words[at + 1] = second;
+            words[at + 2] = third;
         }
         _ => copy_each(words, at, more),
     }

@@ -27,19 +27,19 @@ writes_all old rs ops at n ws count is =
 
 pub returns-in-len1 : goal.returns-in-len1
 returns-in-len1 c =
-    let old = c.args.words.now.items in
+    let old = c.args.words.now in
     let rs = c.args.registers.now in
     let ops = c.args.operands.now in
-    let room : c.args.at + length ops ≤ length old = omega (arith, c.args.words.now.ok, c.requires.there) in
+    let room : c.args.at + length ops ≤ length old = omega (arith, c.requires.there) in
     let count : length ops ≡ 1 = omega (arith, c.in-len1.len_at_least, c.in-len1.len_below) in
     record { written = writes_all old rs ops c.args.at 1 _ count (writes_one old rs ops c.args.at (omega arith) room) }
 
 pub returns-in-len2 : goal.returns-in-len2
 returns-in-len2 c =
-    let old = c.args.words.now.items in
+    let old = c.args.words.now in
     let rs = c.args.registers.now in
     let ops = c.args.operands.now in
-    let room : c.args.at + length ops ≤ length old = omega (arith, c.args.words.now.ok, c.requires.there) in
+    let room : c.args.at + length ops ≤ length old = omega (arith, c.requires.there) in
     let count : length ops ≡ 2 = omega (arith, c.in-len2.len_at_least, c.in-len2.len_below) in
     record {
       written = writes_all old rs ops c.args.at 2 _ count
@@ -48,10 +48,10 @@ returns-in-len2 c =
 
 pub returns-in-len3 : goal.returns-in-len3
 returns-in-len3 c =
-    let old = c.args.words.now.items in
+    let old = c.args.words.now in
     let rs = c.args.registers.now in
     let ops = c.args.operands.now in
-    let room : c.args.at + length ops ≤ length old = omega (arith, c.args.words.now.ok, c.requires.there) in
+    let room : c.args.at + length ops ≤ length old = omega (arith, c.requires.there) in
     let count : length ops ≡ 3 = omega (arith, c.in-len3.len_at_least, c.in-len3.len_below) in
     record {
       written = writes_all old rs ops c.args.at 3 _ count
