@@ -196,9 +196,10 @@ pub(crate) fn make_into(
 {
     let mut next = filled;
     for make in makes {
-        let heap = &mut heaps[make.symbol as usize];
+        let symbol = make.symbol;
+        let heap = &mut heaps[symbol as usize];
         let block = heap.put(&make.operands, &registers[..next]);
-        registers[next] = Word::agent(make.symbol, block);
+        registers[next] = Word::agent(symbol, block);
         next += 1;
     }
     next

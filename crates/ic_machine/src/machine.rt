@@ -478,6 +478,16 @@ pub(crate) fn count(counts: &mut Vec<u64>, number: u32)
     }
 }
 
+/// Counts a plan that has fired, which is one of those that are counted.
+#[inline(always)]
+pub(crate) fn count_at(counts: &mut Vec<u64>, number: u32)
+    requires there { number < length counts.old.items }
+    requires few { AllByRecursion (λ k. k + 1 < 2 ^ 64) counts.old.items }
+    ensures { Counted (number ∷ []) counts.old.items counts.new.items }
+{
+    counts[number as usize] += 1;
+}
+
 /// Adds numbers to others, place by place.
 fn add_each(counts: &mut Vec<u64>, more: &[u64])
     requires len { length more.now ≡ length counts.old.items }

@@ -158,11 +158,20 @@ impl Program {
         ensures found { IfSome result (HasNumber self.now equation) }
         ensures none { IfNone result (IsPair equation → IsStuck self.now equation) }
     {
-        let (left, right) = (equation.left.tag, equation.right.tag);
-        if left == 0 || right == 0 {
+        if equation.left.tag == 0 || equation.right.tag == 0 {
             return None;
         }
-        self.pairs.get(left - 1, right - 1)
+        self.number_of_pair(equation)
+    }
+
+    /// The number of the plan of a pair of agents, where their symbols have one.
+    #[inline(always)]
+    pub(crate) fn number_of_pair(&self, pair: Equation) -> Option<u32>
+        requires pair { IsPair pair }
+        ensures found { IfSome result (HasNumber self.now pair) }
+        ensures none { IfNone result (IsStuck self.now pair) }
+    {
+        self.pairs.get(pair.left.tag - 1, pair.right.tag - 1)
     }
 }
 

@@ -13,7 +13,7 @@ ghost use Rattle.ic_machine.specs.inner.Pairs.{CanFire, IsFirst, IsLast};
 use crate::equation::Equation;
 use crate::firing::{MAX_ENTRIES, make_into, open_into, reserve_blocks, reserve_each, take_into};
 use crate::linking::link_all;
-use crate::machine::{MachineFault, count};
+use crate::machine::{MachineFault, count_at};
 use crate::plan::{Plan, Program};
 use crate::queue::Queue;
 use crate::stamps::Stamps;
@@ -302,7 +302,7 @@ impl Tables {
     }
 
     /// Fires the last pending pair, so many times, as long as it has a plan. There is memory for plans that need so much at most.
-    /// Answers how many pairs have fired.
+    /// Answers how many pairs have fired: none where there isn't a count for each plan.
     #[inline(never)]
     pub(crate) fn fire_each<const STAMPED: bool>(
         &mut self,
@@ -332,17 +332,21 @@ impl Tables {
             ≡ constants (length self.new.heaps.items) }
         ensures spare { HasSpare self.new }
     {
+        // Each plan is counted, so that this isn't asked for each pair.
+        if counts.len() < program.plans().len() {
+            return 0;
+        }
         for fired in 0..times {
             let Some(pair) = self.pending.last() else {
                 return fired;
             };
-            let Some(number) = program.number_for(pair) else {
+            let Some(number) = program.number_of_pair(pair) else {
                 return fired;
             };
             self.stamps.count_last::<STAMPED>(&self.pending);
             self.pending.pop();
             self.fire::<STAMPED>(pair, program.plan_at(number));
-            count(counts, number);
+            count_at(counts, number);
         }
         times
     }

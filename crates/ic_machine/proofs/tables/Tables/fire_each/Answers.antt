@@ -1,5 +1,6 @@
 use Rattle.std.proofs.Common.{◌≡◌, ℕ, ◌+◌, ◌-◌, ◌*◌, ◌^◌, ◌<◌, ◌≤◌, List, [], ◌∷◌, ◌++◌, length, map, take, ap, sym, subst, refl, ◌∙◌, add-zero, arith}
 use Rattle.std.specs.List.{AllByRecursion}
+use Rattle.std.proofs.lemmas.List.{length-map}
 use Rattle.ic_arena.specs.Piece.{Piece}
 use Rattle.ic_machine.specs.declared.equation.Equation.{Equation}
 use Rattle.ic_machine.specs.declared.tables.Tables.{Tables}
@@ -29,11 +30,11 @@ module _ (g : _) (c : After-plan_at g) where
   last : IsLast c.in-Some.pair c.loop-fired.self.pending.items
   last = rw c.in-Some.is at c.last.ensures
 
-  found : HasNumber c.args.program.now c.in-Some.pair c.in-Some-number_for.number
-  found = rw c.in-Some-number_for.is at c.number_for.ensures.found
+  found : HasNumber c.args.program.now c.in-Some.pair c.in-Some-number_of_pair.number
+  found = rw c.in-Some-number_of_pair.is at c.number_of_pair.ensures.found
 
   has : HasPlan c.args.program.now c.in-Some.pair (planned c.plan_at.result.now)
-  has = numbered_plan c.args.program.now c.in-Some.pair c.in-Some-number_for.number (planned c.plan_at.result.now) found c.plan_at.ensures
+  has = numbered_plan c.args.program.now c.in-Some.pair c.in-Some-number_of_pair.number (planned c.plan_at.result.now) found c.plan_at.ensures
 
   can : CanFire (arities_of c.loop-fired.self.heaps.items) c.in-Some.pair (planned c.plan_at.result.now)
   can =
@@ -106,8 +107,32 @@ fire-requires-clause-memory g c =
     (room_less c.args.most n (popped g c) (omega (arith, split)) (room g c)) c.loop-fired.invariant.wide
     (made_known hs (length (arities_of hs) + ((can g c).left_args + (can g c).right_args) + p.names) p.made (can g c).is_plan.made)
 
-pub count-requires : goal.count-requires
-count-requires g c =
+pub returns-then-len-plans-clause-fires : goal.returns-then-len-plans-clause-fires
+returns-then-len-plans-clause-fires g c = λ rest aside.
+    each_none c.args.program.now c.args.counts.now.items c.args.self.now rest
+
+all_last : (P : Equation → Type 0) (es : List Equation) (e : Equation) → AllByRecursion P (es ++ e ∷ []) → P e
+all_last P [] e all = all.0
+all_last P (d ∷ es) e all = all_last P es e all.1
+
+pub number_of_pair-requires : goal.number_of_pair-requires
+number_of_pair-requires g c =
+    let last : IsLast c.in-Some.pair c.loop-fired.self.pending.items = rw c.in-Some.is at c.last.ensures in
+    record { pair = all_last IsPair last.front c.in-Some.pair (subst (AllByRecursion IsPair) last.is c.loop-fired.invariant.pairs) }
+
+-- there is a count for each plan
+pub count_at-requires-clause-there : goal.count_at-requires-clause-there
+count_at-requires-clause-there g c =
+    let d = (goal.at.count_at-requires-clause-there g c).After-plan_at in
+    let there = (found g d).there in
+    let plans = ap length c.plans.ensures in
+    let all = length-map c.plans.result.now planned in
+    let same = (c.loop-fired.invariant.fires [] tt).tally.all in
+    let enough = c.if-len-plans.false in
+    omega (arith, there, plans, all, same, enough, c.args.counts.now.ok)
+
+pub count_at-requires-clause-few : goal.count_at-requires-clause-few
+count_at-requires-clause-few g c =
     let lt = c.loop-fired-test.true in
     let fits = c.ranges.times in
     all_of (λ k. k ≤ 2 ^ 64 - 1 - c.args.times + c.loop-fired.fired) (λ k. k + 1 < 2 ^ 64) c.loop-fired.counts.items
@@ -120,7 +145,7 @@ loop-fired-preserved g c =
     let d = (goal.at.loop-fired-preserved g c).After-plan_at in
     let q : Plans = c.args.program.now in
     let e : Equation = c.in-Some.pair in
-    let i : ℕ = c.in-Some-number_for.number in
+    let i : ℕ = c.in-Some-number_of_pair.number in
     let p : Planned = planned c.plan_at.result.now in
     let t : Tables = c.loop-fired.self in
     let v : Tables = c.fire.new.self in
@@ -144,8 +169,8 @@ loop-fired-preserved g c =
     room_split t.spare fired times c.args.most (size_of p) c.loop-fired-test.true size in
     record {
       fires = λ rest aside. each_more q i (by rest aside).moment t v fired c.args.counts.now.items c.loop-fired.counts.items
-          c.count.new.counts.items c.args.self.now rest (c.loop-fired.invariant.fires rest aside) (way rest aside)
-          (by rest aside).places c.count.ensures;
+          c.count_at.new.counts.items c.args.self.now rest (c.loop-fired.invariant.fires rest aside) (way rest aside)
+          (by rest aside).places c.count_at.ensures;
       arities = c.fire.ensures.arities ∙ c.loop-fired.invariant.arities;
       few = c.fire.ensures.few;
       registers = c.fire.ensures.registers;
@@ -155,8 +180,8 @@ loop-fired-preserved g c =
       pairs = subst (AllByRecursion IsPair) (sym more.after) (all_append IsPair others more.more (pairs g d) more.pairs);
       room = c.fire.ensures.room left (room_less (left + size_of p) (t.spare + (times - fired) * c.args.most) (popped g d)
           (omega (arith, split, c.fire.ensures.spare)) (room g d));
-      counts = all_of (λ k. k ≤ 2 ^ 64 - 1 - times + fired + 1) (λ k. k ≤ 2 ^ 64 - 1 - times + (fired + 1)) c.count.new.counts.items
+      counts = all_of (λ k. k ≤ 2 ^ 64 - 1 - times + fired + 1) (λ k. k ≤ 2 ^ 64 - 1 - times + (fired + 1)) c.count_at.new.counts.items
           (λ k below. let b : k ≤ 2 ^ 64 - 1 - times + fired + 1 = below in omega arith)
-          (counts_within i (2 ^ 64 - 1 - times + fired) c.loop-fired.counts.items c.count.new.counts.items
-          c.loop-fired.invariant.counts c.count.ensures);
+          (counts_within i (2 ^ 64 - 1 - times + fired) c.loop-fired.counts.items c.count_at.new.counts.items
+          c.loop-fired.invariant.counts c.count_at.ensures);
     }
