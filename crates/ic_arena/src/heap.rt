@@ -178,10 +178,10 @@ impl Heap {
         let at = block as usize * arity;
         let words = self.words.as_mut_slice();
         copy(registers, filled, &words[at..at + arity]);
-        words[at] = Word {
-            tag: FREE,
-            index: self.free,
-        };
+        // Its halves are written apart, so that they needn't be joined first.
+        let first = &mut words[at];
+        first.tag = FREE;
+        first.index = self.free;
         self.free = block;
         filled + arity
     }

@@ -86,21 +86,17 @@ impl Names {
             ≡ max (length self.old.entries) (length (names_pieces 0 self.new.entries)) }
         ensures capacity { self.new.capacity ≡ self.old.capacity }
     {
-        let mark = Word {
-            tag: IDLE,
-            index: 0,
-        };
         // The last name that there may be has the number of no place, so the free ones are counted.
         if self.unused == 0 {
             let name = self.count as u32;
-            self.entries[self.count] = mark;
+            self.entries[self.count].tag = IDLE;
             self.count += 1;
             return name;
         }
         let name = self.free;
         self.free = self.entries[name as usize].index;
         self.unused -= 1;
-        self.entries[name as usize] = mark;
+        self.entries[name as usize].tag = IDLE;
         name
     }
 
@@ -122,7 +118,9 @@ impl Names {
         ensures len { length self.new.entries ≡ length self.old.entries }
         ensures capacity { self.new.capacity ≡ self.old.capacity }
     {
-        self.entries[name as usize] = word;
+        let entry = &mut self.entries[name as usize];
+        entry.tag = word.tag;
+        entry.index = word.index;
     }
 
     /// Lets another word wait for a name for which a word waits.
@@ -154,10 +152,9 @@ impl Names {
         ensures len { length self.new.entries ≡ length self.old.entries }
         ensures capacity { self.new.capacity ≡ self.old.capacity }
     {
-        self.entries[name as usize] = Word {
-            tag: FREE,
-            index: self.free,
-        };
+        let entry = &mut self.entries[name as usize];
+        entry.tag = FREE;
+        entry.index = self.free;
         self.free = name;
         self.unused += 1;
     }

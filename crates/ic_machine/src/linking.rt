@@ -75,9 +75,11 @@ pub(crate) fn link_all<const STAMPED: bool>(
     ensures memory { names.new.capacity ≡ names.old.capacity }
 {
     for each in links {
+        let left = &registers[each.left as usize];
+        let right = &registers[each.right as usize];
         let equation = Equation {
-            left: registers[each.left as usize],
-            right: registers[each.right as usize],
+            left: Word { tag: left.tag, index: left.index },
+            right: Word { tag: right.tag, index: right.index },
         };
         link::<STAMPED>(names, pending, stamps, equation);
     }

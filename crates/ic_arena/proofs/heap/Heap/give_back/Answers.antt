@@ -1,10 +1,10 @@
-use Rattle.std.proofs.Common.{◌≡◌, ℕ, ◌*◌, ◌<◌, List, [], sym, subst, slice_set}
+use Rattle.std.proofs.Common.{◌≡◌, ℕ, ◌*◌, ◌<◌, [], sym, subst, slice_set}
 use Rattle.ic_arena.specs.declared.heap.Heap.TheInside.{Inside}
 use Rattle.ic_arena.specs.declared.word.Word.{Word}
 use Rattle.ic_arena.specs.declared.word.TheConstants.{FREE}
 use Rattle.ic_arena.specs.Word.{agent_word}
 use Rattle.ic_arena.specs.Tables.{Replaced, Blocks, block_at, block_piece, blocks_pieces, first_word}
-use Rattle.ic_arena.proofs.HeapFreed.{IsFreed, mark_written}
+use Rattle.ic_arena.proofs.HeapFreed.{mark_written}
 use Rattle.ic_arena.proofs.HeapPut.{held}
 use Rattle.ic_arena.proofs.heap.Heap.give_back.Goals as goal
 
