@@ -25,6 +25,22 @@ use Rattle.ic_machine.proofs.Running.{held_way}
 abbrev pub changed : Inside → Tables → ℕ → Vec ℕ → Inside
 changed m t k counts = record m { tables = t; interactions = k; counts = counts }
 
+-- a machine, of whose memory so much is spare
+abbrev pub with_spare : Inside → ℕ → Inside
+with_spare m n = record m { tables = record m.tables { spare = n } }
+
+pub with_spare_sound : (m : Inside) (n : ℕ) → IsSound m → HasSpare (with_spare m n).tables → IsSound (with_spare m n)
+with_spare_sound m n s spare = record {
+  separate = s.separate;
+  pairs = s.pairs;
+  aside = s.aside;
+  names = s.names;
+  symbols = s.symbols;
+  registers = s.registers;
+  spare = spare;
+  counts = s.counts;
+}
+
 module _ (q : Plans) (m : Inside) (t : Tables) (k : ℕ) (counts : Vec ℕ)
     (arities : arities_of t.heaps.items ≡ arities_of m.tables.heaps.items) where
   -- pairs fire in its tables

@@ -1,5 +1,5 @@
 -- Pairs that fire one after another, where there is memory for all of them.
-use Rattle.std.proofs.Common.{◌≡◌, ℕ, ◌+◌, ◌*◌, ◌-◌, ◌^◌, ◌<◌, ◌≤◌, List, [], ◌∷◌, ◌++◌, Option, Some, IfSome, length, map, max, slice_get, ap, sym, subst, refl, ◌∙◌, append_assoc, add-zero, arith}
+use Rattle.std.proofs.Common.{◌≡◌, ℕ, ◌+◌, ◌*◌, ◌-◌, ◌^◌, ◌<◌, ◌≤◌, List, [], ◌∷◌, ◌++◌, Option, Some, IfSome, length, map, max, slice_get, ap, sym, subst, refl, ◌∙◌, arith}
 use Rattle.std.specs.List.{AllByRecursion}
 use Rattle.std.proofs.lemmas.List.{length-append, map-append}
 use Rattle.std.proofs.lemmas.List.Sorted.{IsPermutation-refl}
@@ -8,7 +8,7 @@ use Rattle.ic_arena.specs.Piece.{Piece}
 use Rattle.ic_arena.specs.Tables.{Blocks}
 use Rattle.ic_machine.specs.declared.equation.Equation.{Equation}
 use Rattle.ic_machine.specs.declared.tables.Tables.{Tables}
-use Rattle.ic_machine.specs.Plan.{Planned, Plans, ArePlans, plan_of}
+use Rattle.ic_machine.specs.Plan.{Planned, Plans, ArePlans}
 use Rattle.ic_machine.specs.Net.{equated_of, in_use}
 use Rattle.ic_machine.specs.Runs.{Counted, Way, greatest}
 use Rattle.ic_machine.specs.Separate.{IsSeparate}
@@ -106,6 +106,10 @@ each_none p counts t rest =
       tally = counted_none counts;
     }
 
+pub each_none-fired : (p : Plans) (counts : List ℕ) (t : Tables) (rest : List Equation) → (each_none p counts t rest).fired ≡ []
+unfolding each_none
+each_none-fired p counts t rest = refl
+
 module _ (p : Plans) (i : ℕ) (m : List Piece) (u v : Tables) where
   pub each_more : (n : ℕ) (a b c : List ℕ) (t : Tables) (rest : List Equation) → FiresEach p n a b t u rest
       → Way p (i ∷ []) (m ∷ []) (held u (map equated_of rest)) (held v (map equated_of rest))
@@ -123,6 +127,13 @@ module _ (p : Plans) (i : ℕ) (m : List Piece) (u v : Tables) where
         ∙ ap (greatest (size_at kind t)) (sym (map-append (in_use kind) r.moments (m ∷ [])))));
     tally = counted_on r.fired (i ∷ []) a b c r.tally counted;
   }
+
+  pub each_more-fired : (n : ℕ) (a b c : List ℕ) (t : Tables) (rest : List Equation) (r : FiresEach p n a b t u rest)
+      (w : Way p (i ∷ []) (m ∷ []) (held u (map equated_of rest)) (held v (map equated_of rest)))
+      (places : (kind : ℕ) → size_at kind v ≡ max (size_at kind u) (in_use kind m)) (counted : Counted (i ∷ []) b c)
+      → (each_more n a b c t rest r w places counted).fired ≡ r.fired ++ i ∷ []
+  unfolding each_more
+  each_more-fired n a b c t rest r w places counted = refl
 
   -- the tables stay separate
   pub fired_separate : ArePlans p → arities_of u.heaps.items ≡ p.arities → arities_of v.heaps.items ≡ arities_of u.heaps.items

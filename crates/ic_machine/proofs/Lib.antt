@@ -44,6 +44,7 @@ pub mod Changed
 pub mod Fired
 pub mod Queues
 pub mod Takings
+pub mod Firsts
 pub mod Advancing
 pub mod Heads
 pub mod Built

@@ -19,11 +19,10 @@ use Rattle.ic_machine.specs.inner.Firing.{heaps_pieces}
 use Rattle.ic_machine.specs.inner.Machine.{net_of}
 use Rattle.ic_machine.specs.inner.Pairs.{HasNumber}
 use Rattle.ic_machine.specs.inner.Queue.{Queued}
-use Rattle.ic_machine.specs.inner.Tables.{FiresBy}
+use Rattle.ic_machine.specs.inner.Tables.{FiresBy, apart}
 use Rattle.ic_machine.specs.lemmas.StepsOn.{steps_to}
 use Rattle.ic_machine.specs.lemmas.GenerationsOn.{advances_beside}
 use Rattle.ic_machine.specs.lemmas.Orders.{to_front}
-use Rattle.ic_machine.proofs.Changed.{changed}
 use Rattle.ic_machine.proofs.Running.{held_order}
 use Rattle.ic_machine.proofs.Sound.{set_aside}
 
@@ -83,23 +82,23 @@ taken_aside p m pending aside e stuck is put run =
     }
 
 -- A pending pair fires in the tables.
-pub taken_fired : (p : Plans) (e : Equation) (i : ℕ) (m : Inside) (t : Tables) (k : ℕ) (counts : Vec ℕ)
-    (rest more now later : List Equation) → FiresBy p e i m.tables t rest m.aside.items → t.pending.items ≡ rest ++ more
-    → Takes p (e ∷ now) now (i ∷ []) (beside later (net_of m)) (beside (later ++ more) (net_of (changed m t k counts)))
-taken_fired p e i m t k counts rest more now later by after =
-    let b = by.bare more (later ++ m.aside.items) after in
-    let xs : List Piece = beside later (net_of m) in
-    let ys : List Piece = beside (later ++ more) (net_of (changed m t k counts)) in
+pub taken_fired : (p : Plans) (e : Equation) (i : ℕ) (t u : Tables) (rest more now later aside : List Equation)
+    → FiresBy p e i t u rest aside → u.pending.items ≡ rest ++ more
+    → Takes p (e ∷ now) now (i ∷ []) (apart later aside t) (apart (later ++ more) aside u)
+taken_fired p e i t u rest more now later aside by after =
+    let b = by.bare more (later ++ aside) after in
+    let xs : List Piece = apart later aside t in
+    let ys : List Piece = apart (later ++ more) aside u in
     let l : List Piece = map equated_of later in
-    let a : List Piece = map equated_of m.aside.items in
+    let a : List Piece = map equated_of aside in
     let g : List Piece = map equated_of more in
-    let n : List Piece = names_pieces 0 m.tables.names.entries in
-    let h : List Piece = heaps_pieces 0 m.tables.heaps.items in
-    let n' : List Piece = names_pieces 0 t.names.entries in
-    let h' : List Piece = heaps_pieces 0 t.heaps.items in
-    let both : map equated_of (later ++ m.aside.items) ≡ l ++ a = map-append equated_of later m.aside.items in
-    let mine : List Piece = n ++ (h ++ map equated_of (later ++ m.aside.items)) in
-    let theirs : List Piece = n' ++ (h' ++ (g ++ map equated_of (later ++ m.aside.items))) in
+    let n : List Piece = names_pieces 0 t.names.entries in
+    let h : List Piece = heaps_pieces 0 t.heaps.items in
+    let n' : List Piece = names_pieces 0 u.names.entries in
+    let h' : List Piece = heaps_pieces 0 u.heaps.items in
+    let both : map equated_of (later ++ aside) ≡ l ++ a = map-append equated_of later aside in
+    let mine : List Piece = n ++ (h ++ map equated_of (later ++ aside)) in
+    let theirs : List Piece = n' ++ (h' ++ (g ++ map equated_of (later ++ aside))) in
     let first = subst (λ (v : List Piece). IsPermutation xs (n ++ (h ++ v))) (sym both) (held_order l a n h) in
     let inner : IsPermutation (g ++ (l ++ a)) (map equated_of (later ++ more) ++ a) =
     subst (λ (v : List Piece). IsPermutation (g ++ (l ++ a)) v)

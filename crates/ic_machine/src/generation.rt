@@ -56,8 +56,42 @@ impl Machine {
                 left -= 1;
             }
             *generation = next;
+            left -= self.take_spare_firsts(program, generation, left);
         }
         Ok(true)
+    }
+
+    /// Fires pairs of a generation, as long as the first pending one has a plan and memory is spare, until none is left or so many have
+    /// fired. Answers how many have fired.
+    fn take_spare_firsts(
+        &mut self,
+        program: &Program,
+        generation: &mut Generation,
+        steps: u64,
+    ) -> u64
+        requires arities { self.old.arities ≡ program.now.arities }
+        requires few { self.old.interactions + steps < 2 ^ 64 }
+        requires within { IsWithin generation.old self.old.pending }
+        ensures advances { Advances program.now generation.old generation.new self.old self.new }
+        ensures within { IsWithin generation.new self.new.pending }
+        ensures fired { self.new.interactions ≡ self.old.interactions + result }
+        ensures at_most { result ≤ steps }
+        ensures left { generation.new.end ≤ generation.old.end }
+    {
+        let Some(most) = program.most() else {
+            return 0;
+        };
+        let pairs = steps.min(generation.end as u64);
+        let times = self.tables.spare_for(most, pairs);
+        if times == 0 {
+            return 0;
+        }
+        let fired = self
+            .tables
+            .fire_firsts(program, &mut self.counts, most, times);
+        self.interactions += fired;
+        generation.end -= fired as usize;
+        fired
     }
 
     /// Whether a pending pair has a plan.

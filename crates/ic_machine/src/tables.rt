@@ -40,7 +40,7 @@ pub(crate) struct Tables {
 }
 
 impl Tables {
-    ghost use Rattle.ic_machine.specs.inner.Tables.{arguments_of, held, size_at, size_of, HasMemory, HasRoomFor, HasSpare, IsReady, IsMade, IsNumbered, IsTooMuch, FiresBy, FiresEach, NeedAtMost};
+    ghost use Rattle.ic_machine.specs.inner.Tables.{arguments_of, held, size_at, size_of, HasMemory, HasRoomFor, HasSpare, IsReady, IsMade, IsNumbered, IsTooMuch, FiresBy, FiresEach, FiresFirsts, NeedAtMost};
 
     /// Tables of nothing, for symbols of these arities. The registers hold the agents without arguments.
     pub(crate) fn new(alloc: Global, arities: &[u32]) -> Result<Tables, AllocError>
@@ -347,6 +347,50 @@ impl Tables {
             self.pending.pop();
             self.fire::<STAMPED>(pair, program.plan_at(number));
             count_at(counts, number);
+        }
+        times
+    }
+
+    /// Fires the first pending pair, so many times, as long as it has a plan, without stamps. Each of them was pending before. There
+    /// is memory for plans that need so much at most. Answers how many pairs have fired.
+    #[inline(never)]
+    pub(crate) fn fire_firsts(
+        &mut self,
+        program: &Program,
+        counts: &mut Vec<u64>,
+        most: usize,
+        times: u64,
+    ) -> u64
+        requires arities { arities_of self.old.heaps.items ≡ program.now.arities }
+        requires few { length self.old.names.entries < 2 ^ 32 }
+        requires symbols { length self.old.heaps.items < GIVEN }
+        requires registers { take (length self.old.heaps.items) self.old.registers.items
+            ≡ constants (length self.old.heaps.items) }
+        requires separate { IsSeparate (arities_of self.old.heaps.items) [] (held self.old []) }
+        requires pairs { AllByRecursion IsPair self.old.pending.items }
+        requires some { times ≤ length self.old.pending.items }
+        requires most { NeedAtMost most program.now }
+        requires room { HasRoomFor (self.old.spare + times * most) self.old }
+        requires wide { length self.old.heaps.items + most ≤ length self.old.registers.items }
+        requires counts { AllByRecursion (λ k. k + times < 2 ^ 64) counts.old.items }
+        ensures within { result ≤ times }
+        ensures fires { (aside : List Equation) → AllByRecursion IsPair aside → FiresFirsts
+            program.now result counts.old.items counts.new.items self.old self.new aside }
+        ensures arities { arities_of self.new.heaps.items ≡ arities_of self.old.heaps.items }
+        ensures pairs { AllByRecursion IsPair self.new.pending.items }
+        ensures few { length self.new.names.entries < 2 ^ 32 }
+        ensures registers { take (length self.new.heaps.items) self.new.registers.items
+            ≡ constants (length self.new.heaps.items) }
+        ensures spare { HasSpare self.new }
+    {
+        for fired in 0..times {
+            let pair = self.pending.first();
+            let Some(number) = program.number_for(pair) else {
+                return fired;
+            };
+            self.pending.take_first();
+            self.fire::<false>(pair, program.plan_at(number));
+            count(counts, number);
         }
         times
     }

@@ -11,7 +11,7 @@ use Rattle.ic_machine.specs.declared.tables.Tables.{Tables}
 use Rattle.ic_machine.specs.Plan.{Made, Planned, Plans, ArePlans, IsPlan, constants, number_of, pieces_made, plan_of}
 use Rattle.ic_machine.specs.Net.{equated_of, in_use}
 use Rattle.ic_machine.specs.Runs.{greatest, Counted, Way}
-use Rattle.ic_machine.specs.Generations.{FiresPair}
+use Rattle.ic_machine.specs.Generations.{FiresPair, Takes}
 use Rattle.ic_machine.specs.Steps.{AreFresh, Steps}
 use Rattle.ic_machine.specs.inner.Firing.{heaps_pieces, arities_of, table, HasBlocks, HasRoom}
 
@@ -137,3 +137,22 @@ pub record FiresEach (p : Plans) (count : ℕ) (counts counts' : List ℕ) (old 
   pub way : Way p fired moments (held old (map equated_of rest)) (held new (map equated_of rest))
   pub places : (kind : ℕ) → size_at kind new ≡ greatest (size_at kind old) (map (in_use kind) moments)
   pub tally : Counted fired counts counts'
+
+-- the pieces of a net with these tables, without its pending pairs, but with those that are of a later generation and those that
+-- are set aside
+abbrev pub apart : (later aside : List Equation) → Tables → List Piece
+apart later aside t = map equated_of later
+    ++ (map equated_of aside ++ (names_pieces 0 t.names.entries ++ heaps_pieces 0 t.heaps.items))
+
+-- So many pairs, the first pending ones, fire one after another, and those that come of them stand after all others. Each of the
+-- others may be of the present generation or of a later one.
+pub record FiresFirsts (p : Plans) (count : ℕ) (counts counts' : List ℕ) (old new : Tables) (aside : List Equation) : Type 0 where
+  pub each : FiresEach p count counts counts' old new aside
+  pub taken : List Equation
+  pub rest : List Equation
+  pub more : List Equation
+  pub many : length taken ≡ count
+  pub before : old.pending.items ≡ taken ++ rest
+  pub after : new.pending.items ≡ rest ++ more
+  pub takes : (now later : List Equation)
+      → Takes p (taken ++ now) now each.fired (apart later aside old) (apart (later ++ more) aside new)

@@ -5,7 +5,7 @@ use Rattle.ic_machine.specs.lemmas.GenerationsOn.{advances_none, advances_on}
 use Rattle.ic_machine.proofs.Advancing.{one_taken}
 use Rattle.ic_machine.proofs.Takings.{advances_same}
 use Rattle.ic_machine.proofs.machine.Machine.run_generation.Goals as goal
-use Rattle.ic_machine.proofs.machine.Machine.run_generation.Goals.{In_ok-take_first}
+use Rattle.ic_machine.proofs.machine.Machine.run_generation.Goals.{In_ok-take_first, else-branch, then-branch}
 
 module _ (c : In_ok-take_first) where
   abbrev next : Generation
@@ -37,20 +37,20 @@ returns-in_err-take_first-clause-advances c =
     c.take_first.ensures.ran c.in_err-take_first.ensures.err c.in_err-take_first.ensures.same
     c.in_err-take_first.ensures.held)
 
-pub loop-generation-preserved-then-branch : goal.loop-generation-preserved-then-branch
-loop-generation-preserved-then-branch c =
-    let at = (goal.at.loop-generation-preserved-then-branch c).In_ok-take_first in
-    let fired : c.take_first.new.self.interactions ≡ c.loop-generation.self.interactions + 1 =
-    c.in_ok-take_first.ensures.fired (cc (c.if-branch.true)) in
-    let counted : c.loop-generation.self.interactions + c.loop-generation.left ≡ c.args.self.now.interactions + c.args.steps =
-    c.loop-generation.invariant.counted in
-    record { advances = on at; within = (one at).1; counted = omega (arith, c.if-left-eq0.false) }
-
 pub loop-generation-preserved : goal.loop-generation-preserved
 loop-generation-preserved c =
     let at = (goal.at.loop-generation-preserved c).In_ok-take_first in
-    let aside : c.take_first.new.self.interactions ≡ c.loop-generation.self.interactions =
-    c.in_ok-take_first.ensures.aside (cc (c.if-branch.false)) in
-    let counted : c.loop-generation.self.interactions + c.loop-generation.left ≡ c.args.self.now.interactions + c.args.steps =
+    let before : c.loop-generation.self.interactions + c.loop-generation.left ≡ c.args.self.now.interactions + c.args.steps =
     c.loop-generation.invariant.counted in
-    record { advances = on at; within = (one at).1; counted = omega arith }
+    let some = c.if-left-eq0.false in
+    let taken : c.take_first.new.self.interactions + c.if-branch.left ≡ c.loop-generation.self.interactions + c.loop-generation.left =
+    elim c.if-branch.branch [
+      | then-branch w ↦ omega (arith, w.left-is, some, c.in_ok-take_first.ensures.fired (cc (w.if-branch.true)))
+      | else-branch w ↦ omega (arith, w.left-is, c.in_ok-take_first.ensures.aside (cc (w.if-branch.false)))
+    ] in
+    record {
+      advances = advances_on c.args.program.now c.args.generation.now (next at) c.take_spare_firsts-left.new.generation c.args.self.now
+          c.take_first.new.self c.take_spare_firsts-left.new.self (on at) c.take_spare_firsts-left.ensures.advances;
+      within = c.take_spare_firsts-left.ensures.within;
+      counted = omega (arith, before, taken, c.take_spare_firsts-left.ensures.fired, c.take_spare_firsts-left.ensures.at_most);
+    }

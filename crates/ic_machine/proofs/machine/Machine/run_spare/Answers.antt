@@ -1,40 +1,22 @@
-use Rattle.std.proofs.Common.{◌≡◌, ◌+◌, ◌^◌, ◌<◌, ◌≤◌, ℕ, List, [], length, map, ap, sym, subst, refl, ◌∙◌, add-zero, arith}
+use Rattle.std.proofs.Common.{◌≡◌, ◌+◌, ◌^◌, ◌<◌, ◌≤◌, ℕ, [], length, map, ap, sym, subst, ◌∙◌, arith}
 use Rattle.std.specs.List.{AllByRecursion}
-use Rattle.std.proofs.lemmas.List.Sorted.{IsPermutation-refl}
-use Rattle.ic_arena.specs.Piece.{Piece}
 use Rattle.ic_arena.specs.Tables.{names_pieces}
 use Rattle.ic_machine.specs.declared.machine.Machine.TheInside.{Inside}
 use Rattle.ic_machine.specs.declared.tables.Tables.{Tables}
-use Rattle.ic_machine.specs.Plan.{Plans, ArePlans}
+use Rattle.ic_machine.specs.Plan.{Plans}
 use Rattle.ic_machine.specs.Net.{Net, equated_of}
 use Rattle.ic_machine.specs.Runs.{Ran}
 use Rattle.ic_machine.specs.Separate.{IsSeparate}
 use Rattle.ic_machine.specs.inner.Firing.{arities_of, heaps_pieces}
-use Rattle.ic_machine.specs.inner.Machine.{IsSound, net_of}
+use Rattle.ic_machine.specs.inner.Machine.{net_of}
 use Rattle.ic_machine.specs.inner.Tables.{FiresEach, HasSpare, held}
 use Rattle.ic_machine.specs.lemmas.FiringKeeps.{all_of}
 use Rattle.ic_machine.specs.lemmas.RunsOn.{ran_none}
-use Rattle.ic_machine.proofs.Changed.{changed, changed_ran, changed_sound}
+use Rattle.ic_machine.proofs.Changed.{changed, changed_ran, changed_sound, with_spare, with_spare_sound}
 use Rattle.ic_machine.proofs.Running.{held_separate}
 use Rattle.ic_machine.proofs.Sound.{counts_all, wide_enough}
 use Rattle.ic_machine.proofs.machine.Machine.run_spare.Goals as goal
 use Rattle.ic_machine.proofs.machine.Machine.run_spare.Goals.{After-fire_each-fired}
-
--- a machine, of whose memory so much is spare
-abbrev less : Inside → ℕ → Inside
-less m n = record m { tables = record m.tables { spare = n } }
-
-less_sound : (m : Inside) (n : ℕ) → IsSound m → HasSpare (less m n).tables → IsSound (less m n)
-less_sound m n s spare = record {
-  separate = s.separate;
-  pairs = s.pairs;
-  aside = s.aside;
-  names = s.names;
-  symbols = s.symbols;
-  registers = s.registers;
-  spare = spare;
-  counts = s.counts;
-}
 
 -- what has fired, beside what is set aside
 module _ (g : _) (c : After-fire_each-fired g) where
@@ -45,17 +27,17 @@ module _ (g : _) (c : After-fire_each-fired g) where
   arities = c.fire_each-fired.ensures.arities ∙ ap (λ (t : Tables). arities_of t.heaps.items) c.spare_for-times.ensures.same
 
   fired : FiresEach c.args.program.now c.fire_each-fired.result c.self.inside.counts.items c.fire_each-fired.new.counts.items
-      (less c.self.inside c.spare_for-times.new.self.spare).tables c.fire_each-fired.new.self c.self.inside.aside.items
+      (with_spare c.self.inside c.spare_for-times.new.self.spare).tables c.fire_each-fired.new.self c.self.inside.aside.items
   fired =
       subst (λ (t : Tables). FiresEach c.args.program.now c.fire_each-fired.result c.self.inside.counts.items
       c.fire_each-fired.new.counts.items t c.fire_each-fired.new.self c.self.inside.aside.items) c.spare_for-times.ensures.same
       (c.fire_each-fired.ensures.fires c.self.inside.aside.items c.self.invariant.aside)
 
-  ran : Ran c.args.program.now (net_of (less c.self.inside c.spare_for-times.new.self.spare))
-      (net_of (changed (less c.self.inside c.spare_for-times.new.self.spare) c.fire_each-fired.new.self
+  ran : Ran c.args.program.now (net_of (with_spare c.self.inside c.spare_for-times.new.self.spare))
+      (net_of (changed (with_spare c.self.inside c.spare_for-times.new.self.spare) c.fire_each-fired.new.self
       (c.self.inside.interactions + c.fire_each-fired.result) c.fire_each-fired.new.counts))
   ran =
-      changed_ran c.args.program.now (less c.self.inside c.spare_for-times.new.self.spare) c.fire_each-fired.new.self
+      changed_ran c.args.program.now (with_spare c.self.inside c.spare_for-times.new.self.spare) c.fire_each-fired.new.self
       (c.self.inside.interactions + c.fire_each-fired.result) c.fire_each-fired.new.counts arities fired.fired fired.moments fired.way
       fired.places (ap (λ (k : ℕ). c.self.inside.interactions + k) (sym fired.counted)) fired.tally
 
@@ -92,12 +74,12 @@ fire_each-fired-requires-clause-counts g c =
 pub invariant_of-self-2 : goal.invariant_of-self-2
 invariant_of-self-2 g c =
     let d = (goal.at.invariant_of-self-2 g c).After-fire_each-fired in
-    let m : Inside = less c.self.inside c.spare_for-times.new.self.spare in
+    let m : Inside = with_spare c.self.inside c.spare_for-times.new.self.spare in
     let each = fired g d in
     let e = c.fire_each-fired.ensures in
     changed_sound c.args.program.now m c.fire_each-fired.new.self (c.self.inside.interactions + c.fire_each-fired.result)
     c.fire_each-fired.new.counts (arities g d) (ran g d)
-    (less_sound c.self.inside c.spare_for-times.new.self.spare c.self.invariant
+    (with_spare_sound c.self.inside c.spare_for-times.new.self.spare c.self.invariant
     (subst HasSpare c.spare_for-times.ensures.same c.spare_for-times.ensures.spare)) c.most.ensures.sound (known g d)
     e.pairs e.few e.registers e.spare
     (subst (λ (k : ℕ). AllByRecursion (λ n. n ≤ c.self.inside.interactions + k) c.fire_each-fired.new.counts.items) each.counted
@@ -107,6 +89,6 @@ invariant_of-self-2 g c =
 pub returns-clause-ran : goal.returns-clause-ran
 returns-clause-ran g c =
     let d = (goal.at.returns-clause-ran g c).After-fire_each-fired in
-    let m : Inside = less c.self.inside c.spare_for-times.new.self.spare in
+    let m : Inside = with_spare c.self.inside c.spare_for-times.new.self.spare in
     subst (λ (n : Net). Ran c.args.program.now n (net_of (changed m c.fire_each-fired.new.self
     (c.self.inside.interactions + c.fire_each-fired.result) c.fire_each-fired.new.counts))) c.self.view_is (ran g d)

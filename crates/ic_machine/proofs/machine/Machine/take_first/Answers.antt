@@ -113,8 +113,8 @@ module _ (c : After-count) where
         ran = run;
         takes = λ now later order. subst (λ (is : List ℕ). Takes c.args.program.now (c.first-pair.result ∷ now) now is
             (beside later (net_of c.self.inside)) (beside (later ++ more.more) (net_of after))) (sym run_fired)
-            (taken_fired c.args.program.now c.first-pair.result c.in-Some.number c.self.inside c.fire_first.new.self
-            (c.self.inside.interactions + 1) c.count.new.counts first.rest more.more now later by more.after);
+            (taken_fired c.args.program.now c.first-pair.result c.in-Some.number c.self.inside.tables c.fire_first.new.self
+            first.rest more.more now later c.self.inside.aside.items by more.after);
       }
 
 -- ---- the goals
