@@ -115,17 +115,33 @@ pub(crate) fn link<const STAMPED: bool>(
     let mut left = equation.left;
     let mut right = equation.right;
     let mut stamp = stamps.made();
+    // Each end stands by itself, so that no word is asked twice whether it is a name.
     'follow: loop {
-        if let Some(waiting) = taken(names, left) {
-            stamp = stamps.joined::<STAMPED>(stamp, left.index);
-            left = waiting;
-        } else if let Some(waiting) = taken(names, right) {
-            stamp = stamps.joined::<STAMPED>(stamp, right.index);
-            right = waiting;
-        } else {
+        if left.tag == NAME {
+            if let Some(waiting) = taken(names, left) {
+                stamp = stamps.joined::<STAMPED>(stamp, left.index);
+                left = waiting;
+                continue 'follow;
+            }
+            if let Some(waiting) = taken(names, right) {
+                stamp = stamps.joined::<STAMPED>(stamp, right.index);
+                right = waiting;
+                continue 'follow;
+            }
             settle::<STAMPED>(names, pending, stamps, Equation { left, right }, stamp);
             return;
         }
+        if right.tag == NAME {
+            if let Some(waiting) = taken(names, right) {
+                stamp = stamps.joined::<STAMPED>(stamp, right.index);
+                right = waiting;
+                continue 'follow;
+            }
+            settle::<STAMPED>(names, pending, stamps, Equation { left, right }, stamp);
+            return;
+        }
+        settle::<STAMPED>(names, pending, stamps, Equation { left, right }, stamp);
+        return;
     }
 }
 
