@@ -469,7 +469,7 @@ fn set_aside(pair: Equation, aside: &mut Vec<Equation>) -> Result<(), MachineFau
 
 /// Counts a plan that has fired, if it is one of those that are counted.
 #[inline(always)]
-pub(crate) fn count(counts: &mut Vec<u64>, number: u32)
+fn count(counts: &mut Vec<u64>, number: u32)
     requires { AllByRecursion (λ k. k + 1 < 2 ^ 64) counts.old.items }
     ensures { Counted (number ∷ []) counts.old.items counts.new.items }
 {

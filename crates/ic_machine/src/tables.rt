@@ -352,7 +352,7 @@ impl Tables {
     }
 
     /// Fires the first pending pair, so many times, as long as it has a plan, without stamps. Each of them was pending before. There
-    /// is memory for plans that need so much at most. Answers how many pairs have fired.
+    /// is memory for plans that need so much at most. Answers how many pairs have fired: none where there isn't a count for each plan.
     #[inline(never)]
     pub(crate) fn fire_firsts(
         &mut self,
@@ -383,14 +383,18 @@ impl Tables {
             ≡ constants (length self.new.heaps.items) }
         ensures spare { HasSpare self.new }
     {
+        // Each plan is counted, so that this isn't asked for each pair.
+        if counts.len() < program.plans().len() {
+            return 0;
+        }
         for fired in 0..times {
             let pair = self.pending.first();
-            let Some(number) = program.number_for(pair) else {
+            let Some(number) = program.number_of_pair(pair) else {
                 return fired;
             };
             self.pending.take_first();
             self.fire::<false>(pair, program.plan_at(number));
-            count(counts, number);
+            count_at(counts, number);
         }
         times
     }

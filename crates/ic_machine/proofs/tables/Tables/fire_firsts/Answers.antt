@@ -1,6 +1,6 @@
 use Rattle.std.proofs.Common.{◌≡◌, ℕ, ◌+◌, ◌-◌, ◌*◌, ◌^◌, ◌<◌, ◌≤◌, List, [], ◌∷◌, length, map, ap, sym, subst, refl, ◌∙◌, arith}
 use Rattle.std.specs.List.{AllByRecursion}
-use Rattle.std.proofs.lemmas.List.{length-append}
+use Rattle.std.proofs.lemmas.List.{length-append, length-map}
 use Rattle.ic_machine.specs.declared.equation.Equation.{Equation}
 use Rattle.ic_machine.specs.declared.tables.Tables.{Tables}
 use Rattle.ic_machine.specs.Plan.{Planned, Plans, planned}
@@ -26,7 +26,7 @@ module _ (c : After-plan_at) where
   known = c.loop-fired.invariant.arities ∙ c.requires.arities
 
   found : HasNumber c.args.program.now c.first-pair.result c.in-Some.number
-  found = rw c.in-Some.is at c.number_for.ensures.found
+  found = rw c.in-Some.is at c.number_of_pair.ensures.found
 
   has : HasPlan c.args.program.now c.first-pair.result (planned c.plan_at.result.now)
   has = numbered_plan c.args.program.now c.first-pair.result c.in-Some.number (planned c.plan_at.result.now) found c.plan_at.ensures
@@ -100,8 +100,28 @@ fire-requires-clause-memory c =
     (room_less c.args.most n (without c) (omega (arith, split)) (room c)) c.loop-fired.invariant.wide
     (made_known hs (length (arities_of hs) + ((can c).left_args + (can c).right_args) + p.names) p.made (can c).is_plan.made)
 
-pub count-requires : goal.count-requires
-count-requires c =
+pub returns-then-len-plans-clause-fires : goal.returns-then-len-plans-clause-fires
+returns-then-len-plans-clause-fires c = λ aside pairs.
+    firsts_none c.args.program.now c.args.counts.now.items c.args.self.now aside
+
+pub number_of_pair-requires : goal.number_of_pair-requires
+number_of_pair-requires c =
+    let first = c.first-pair.ensures in
+    record { pair = (subst (AllByRecursion IsPair) first.is c.loop-fired.invariant.pairs).0 }
+
+-- there is a count for each plan
+pub count_at-requires-clause-there : goal.count_at-requires-clause-there
+count_at-requires-clause-there c =
+    let d = (goal.at.count_at-requires-clause-there c).After-plan_at in
+    let there = (found d).there in
+    let plans = ap length c.plans.ensures in
+    let all = length-map c.plans.result.now planned in
+    let same = (c.loop-fired.invariant.fires [] tt).each.tally.all in
+    let enough = c.if-len-plans.false in
+    omega (arith, there, plans, all, same, enough, c.args.counts.now.ok)
+
+pub count_at-requires-clause-few : goal.count_at-requires-clause-few
+count_at-requires-clause-few c =
     let lt = c.loop-fired-test.true in
     let fits = c.ranges.times in
     all_of (λ k. k ≤ 2 ^ 64 - 1 - c.args.times + c.loop-fired.fired) (λ k. k + 1 < 2 ^ 64) c.loop-fired.counts.items
@@ -145,8 +165,8 @@ loop-fired-preserved c =
     room_split t.spare fired times c.args.most (size_of p) c.loop-fired-test.true size in
     record {
       fires = λ rest aside. firsts_more q e i t v others rest (by rest aside) fired c.args.counts.now.items c.loop-fired.counts.items
-          c.count.new.counts.items c.args.self.now more.more (c.loop-fired.invariant.fires rest aside) (left rest aside) (out d)
-          more.after (way rest aside) c.count.ensures;
+          c.count_at.new.counts.items c.args.self.now more.more (c.loop-fired.invariant.fires rest aside) (left rest aside) (out d)
+          more.after (way rest aside) c.count_at.ensures;
       arities = c.fire.ensures.arities ∙ c.loop-fired.invariant.arities;
       few = c.fire.ensures.few;
       registers = c.fire.ensures.registers;
@@ -157,8 +177,8 @@ loop-fired-preserved c =
       some = omega (arith, some, less, longer);
       room = c.fire.ensures.room spare (room_less (spare + size_of p) (t.spare + (times - fired) * c.args.most) (without d)
           (omega (arith, split, c.fire.ensures.spare)) (room d));
-      counts = all_of (λ k. k ≤ 2 ^ 64 - 1 - times + fired + 1) (λ k. k ≤ 2 ^ 64 - 1 - times + (fired + 1)) c.count.new.counts.items
+      counts = all_of (λ k. k ≤ 2 ^ 64 - 1 - times + fired + 1) (λ k. k ≤ 2 ^ 64 - 1 - times + (fired + 1)) c.count_at.new.counts.items
           (λ k below. let b : k ≤ 2 ^ 64 - 1 - times + fired + 1 = below in omega arith)
-          (counts_within i (2 ^ 64 - 1 - times + fired) c.loop-fired.counts.items c.count.new.counts.items
-          c.loop-fired.invariant.counts c.count.ensures);
+          (counts_within i (2 ^ 64 - 1 - times + fired) c.loop-fired.counts.items c.count_at.new.counts.items
+          c.loop-fired.invariant.counts c.count_at.ensures);
     }
