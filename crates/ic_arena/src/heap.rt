@@ -207,31 +207,33 @@ impl Heap {
     }
 }
 
-/// Writes the words of registers, from a place on. Up to three are read before the first one is
-/// written, without a loop.
+/// Writes the words of registers, from a place on. Up to three are read before the first one is written, without a loop.
 #[inline(always)]
 fn write(words: &mut [Word], at: usize, operands: &[u32], registers: &[Word])
+    requires some { 1 ≤ length operands.now }
     requires there { at + length operands.now ≤ length words.old }
     requires filled { AllByRecursion (λ k. k < length registers.now) operands.now }
     ensures written { words.new ≡ take at words.old
         ++ (map (register registers.now) operands.now
         ++ drop (at + length operands.now) words.old) }
 {
-    match operands {
-        [only] => words[at] = registers[*only as usize],
-        [first, second] => {
-            let (first, second) = (registers[*first as usize], registers[*second as usize]);
-            words[at] = first;
-            words[at + 1] = second;
-        }
-        [first, second, third] => {
-            let (first, second) = (registers[*first as usize], registers[*second as usize]);
-            let third = registers[*third as usize];
-            words[at] = first;
-            words[at + 1] = second;
-            words[at + 2] = third;
-        }
-        _ => write_each(words, at, operands, registers),
+    let count = operands.len();
+    if count < 2 {
+        words[at] = registers[operands[0] as usize];
+    } else if count == 2 {
+        let first = registers[operands[0] as usize];
+        let second = registers[operands[1] as usize];
+        words[at] = first;
+        words[at + 1] = second;
+    } else if count == 3 {
+        let first = registers[operands[0] as usize];
+        let second = registers[operands[1] as usize];
+        let third = registers[operands[2] as usize];
+        words[at] = first;
+        words[at + 1] = second;
+        words[at + 2] = third;
+    } else {
+        write_each(words, at, operands, registers);
     }
 }
 

@@ -25,34 +25,34 @@ writes_all old rs ops at n ws count is =
     is ∙ (ap (λ (l : List ℕ). take at old ++ (map (register rs) l ++ drop (at + n) old)) same
     ∙ ap (λ (k : ℕ). take at old ++ (map (register rs) ops ++ drop (at + k) old)) (sym count))
 
-pub returns-in-len1 : goal.returns-in-len1
-returns-in-len1 c =
+pub returns-then-count-lt2 : goal.returns-then-count-lt2
+returns-then-count-lt2 c =
     let old = c.args.words.now in
     let rs = c.args.registers.now in
     let ops = c.args.operands.now in
     let room : c.args.at + length ops ≤ length old = omega (arith, c.requires.there) in
-    let count : length ops ≡ 1 = omega (arith, c.in-len1.len_at_least, c.in-len1.len_below) in
+    let count : length ops ≡ 1 = omega (arith, c.if-count-lt2.true, c.requires.some) in
     record { written = writes_all old rs ops c.args.at 1 _ count (writes_one old rs ops c.args.at (omega arith) room) }
 
-pub returns-in-len2 : goal.returns-in-len2
-returns-in-len2 c =
+pub returns-then-count-eq2 : goal.returns-then-count-eq2
+returns-then-count-eq2 c =
     let old = c.args.words.now in
     let rs = c.args.registers.now in
     let ops = c.args.operands.now in
     let room : c.args.at + length ops ≤ length old = omega (arith, c.requires.there) in
-    let count : length ops ≡ 2 = omega (arith, c.in-len2.len_at_least, c.in-len2.len_below) in
+    let count : length ops ≡ 2 = omega (arith, c.if-count-eq2.true) in
     record {
       written = writes_all old rs ops c.args.at 2 _ count
           (write_more old rs ops c.args.at 1 _ (name_word 0) (omega arith) room (writes_one old rs ops c.args.at (omega arith) room));
     }
 
-pub returns-in-len3 : goal.returns-in-len3
-returns-in-len3 c =
+pub returns-then-count-eq3 : goal.returns-then-count-eq3
+returns-then-count-eq3 c =
     let old = c.args.words.now in
     let rs = c.args.registers.now in
     let ops = c.args.operands.now in
     let room : c.args.at + length ops ≤ length old = omega (arith, c.requires.there) in
-    let count : length ops ≡ 3 = omega (arith, c.in-len3.len_at_least, c.in-len3.len_below) in
+    let count : length ops ≡ 3 = omega (arith, c.if-count-eq3.true) in
     record {
       written = writes_all old rs ops c.args.at 3 _ count
           (write_more old rs ops c.args.at 2 _ (name_word 0) (omega arith) room
