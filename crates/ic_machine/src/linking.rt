@@ -78,8 +78,14 @@ pub(crate) fn link_all<const STAMPED: bool>(
         let left = &registers[each.left as usize];
         let right = &registers[each.right as usize];
         let equation = Equation {
-            left: Word { tag: left.tag, index: left.index },
-            right: Word { tag: right.tag, index: right.index },
+            left: Word {
+                tag: left.tag,
+                index: left.index,
+            },
+            right: Word {
+                tag: right.tag,
+                index: right.index,
+            },
         };
         link::<STAMPED>(names, pending, stamps, equation);
     }
