@@ -289,7 +289,8 @@ fn push_each(words: &mut Vec<Word>, more: &[Word])
     }
 }
 
-/// Copies words over those from a place on. Up to three are read before the first one is written, without a loop.
+/// Copies words over those from a place on. Up to three are copied without a loop, one by one: two words that were written
+/// one by one just before are read slowly as one of twice the width.
 #[inline(always)]
 fn copy(words: &mut [Word], at: usize, more: &[Word])
     requires there { at + length more.now ≤ length words.old }
@@ -299,15 +300,13 @@ fn copy(words: &mut [Word], at: usize, more: &[Word])
     match more {
         [only] => words[at] = *only,
         [first, second] => {
-            let (first, second) = (*first, *second);
-            words[at] = first;
-            words[at + 1] = second;
+            words[at] = *first;
+            words[at + 1] = *second;
         }
         [first, second, third] => {
-            let (first, second, third) = (*first, *second, *third);
-            words[at] = first;
-            words[at + 1] = second;
-            words[at + 2] = third;
+            words[at] = *first;
+            words[at + 1] = *second;
+            words[at + 2] = *third;
         }
         _ => copy_each(words, at, more),
     }

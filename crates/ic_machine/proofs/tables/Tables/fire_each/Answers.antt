@@ -1,16 +1,14 @@
-use Rattle.std.proofs.Common.{◌≡◌, ℕ, ◌+◌, ◌-◌, ◌*◌, ◌^◌, ◌<◌, ◌≤◌, List, [], ◌∷◌, ◌++◌, length, map, take, ap, sym, subst, refl, ◌∙◌, add-zero, arith}
+use Rattle.std.proofs.Common.{◌≡◌, ℕ, ◌+◌, ◌-◌, ◌*◌, ◌^◌, ◌<◌, ◌≤◌, List, [], ◌∷◌, ◌++◌, length, map, ap, sym, subst, refl, ◌∙◌, arith}
 use Rattle.std.specs.List.{AllByRecursion}
 use Rattle.std.proofs.lemmas.List.{length-map}
-use Rattle.ic_arena.specs.Piece.{Piece}
 use Rattle.ic_machine.specs.declared.equation.Equation.{Equation}
 use Rattle.ic_machine.specs.declared.tables.Tables.{Tables}
-use Rattle.ic_machine.specs.Plan.{Planned, Plans, constants, planned}
+use Rattle.ic_machine.specs.Plan.{Planned, Plans, planned}
 use Rattle.ic_machine.specs.Net.{equated_of, IsPair}
 use Rattle.ic_machine.specs.Runs.{Way}
 use Rattle.ic_machine.specs.inner.Firing.{arities_of}
-use Rattle.ic_machine.specs.inner.Linking.{Pushed}
 use Rattle.ic_machine.specs.inner.Pairs.{CanFire, HasNumber, HasPlan, IsLast}
-use Rattle.ic_machine.specs.inner.Tables.{FiresBy, HasMemory, HasRoomFor, arguments_of, held, size_of}
+use Rattle.ic_machine.specs.inner.Tables.{FiresBy, HasRoomFor, arguments_of, held, size_of}
 use Rattle.ic_machine.specs.lemmas.FiringKeeps.{all_append, all_of}
 use Rattle.ic_machine.proofs.Each.{each_more, each_none, fired_separate, memory_of, need_within, room_less, room_popped, room_split}
 use Rattle.ic_machine.proofs.Fired.{fires_before, last_apart, separate_apart, way_apart}
