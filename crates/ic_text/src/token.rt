@@ -25,17 +25,22 @@ pub fn is_blank(byte: u8) -> bool
     byte == b' ' || byte == b'\t' || byte == b'\n' || byte == b'\r'
 }
 
-/// Whether a byte is of a word: a letter, a digit or `-`, below which stand most marks and blanks.
+/// A `1` for each byte of a word.
+static WORD_BYTES: [u8; 256] = *b"\
+    00000000000000000000000000000000\
+    00000000000001001111111111000000\
+    01111111111111111111111111100000\
+    01111111111111111111111111100000\
+    00000000000000000000000000000000\
+    00000000000000000000000000000000\
+    00000000000000000000000000000000\
+    00000000000000000000000000000000";
+
+/// Whether a byte is of a word: a letter, a digit or `-`. A table tells it in fewer instructions than tests do.
 pub fn is_word_byte(byte: u8) -> bool
     ensures { result ≡ is_word_byte byte }
 {
-    if byte < b'-' {
-        return false;
-    }
-    if byte < b'A' {
-        return byte.is_ascii_digit() || byte == b'-';
-    }
-    byte.is_ascii_alphabetic()
+    WORD_BYTES[byte as usize] == b'1'
 }
 
 pub(crate) fn mark_of(byte: u8) -> Option<Mark>
