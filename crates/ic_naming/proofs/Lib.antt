@@ -1,5 +1,5 @@
 pub mod Places
-pub mod Counts
+pub mod Marks
 pub mod Spares
 pub mod Numberings
 pub mod Kept

@@ -1,10 +1,10 @@
 //! Words with their names numbered anew.
 
-ghost use Rattle.std.specs.Prelude.{◌≡◌, ◌<◌, length, map, IfOk};
+ghost use Rattle.std.specs.Prelude.{◌≡◌, ◌==◌, ◌<◌, ℕ, false, get_or, length, map, if◌then◌else◌, IfOk};
 ghost use Rattle.std.specs.List.{flat_map};
 ghost use Rattle.ic_flat.specs.Words.{word_names};
-ghost use Rattle.ic_naming.specs.Naming.{is_counted_kept, renamed_word, renumbered_words};
-ghost use Rattle.ic_naming.specs.inner.Numbering.{AreCounts, ArePlaces, AreSpare, counted, told_by};
+ghost use Rattle.ic_naming.specs.Naming.{renamed_word, renumbered_words};
+ghost use Rattle.ic_naming.specs.inner.Numbering.{AreListed, AreSpare, told_by};
 
 use ic_flat::Word;
 use ic_names::NameTable;
@@ -37,13 +37,38 @@ fn names_of(alloc: Global, words: &[Word]) -> Result<Vec<u64>, AllocError>
     Ok(names)
 }
 
-/// What some names are numbered by: the places of their first occurrences, how many different ones there are, how often
-/// each of them stands there that may stand in a text, and the first numbers that are no names which are kept.
+/// Different names by their places in the order of their first occurrences, how many these are, and of each whether it occurs
+/// once.
 #[derive(Drop)]
-struct Numbering {
+struct Listed {
     places: NameTable,
     firsts: u32,
-    counts: NameTable,
+    single: Vec<bool>,
+}
+
+impl Listed {
+    ghost use Rattle.ic_naming.specs.inner.Numbering.{is_listed_kept, place_in};
+
+    /// The place of a name, or that after all.
+    fn place(&self, name: u64) -> u32
+        ensures { result ≡ place_in self.now name }
+    {
+        self.places.get(name).unwrap_or(self.firsts)
+    }
+
+    /// Whether a name with this place is kept.
+    fn is_kept(&self, name: u64, place: u32) -> bool
+        requires { place ≡ place_in self.now name }
+        ensures { result ≡ is_listed_kept self.now name }
+    {
+        name <= MAX_NAME && self.single.get(place as usize).copied().unwrap_or(false)
+    }
+}
+
+/// What some names are numbered by: their places, and the first numbers that are no names which are kept.
+#[derive(Drop)]
+struct Numbering {
+    listed: Listed,
     spare: Vec<u64>,
 }
 
@@ -56,92 +81,72 @@ impl Numbering {
         if names.len() >= u32::MAX as usize {
             return Err(AllocError);
         }
-        let (places, firsts) = places_of(alloc, names)?;
-        let counts = counts_of(alloc, names)?;
-        let spare = spare_numbers(alloc, names, &counts, firsts)?;
-        Ok(Numbering {
-            places,
-            firsts,
-            counts,
-            spare,
-        })
+        let listed = list_names(alloc, names)?;
+        let spare = spare_numbers(alloc, names, &listed)?;
+        Ok(Numbering { listed, spare })
     }
 
-    /// The name that a name is told by, among these.
+    /// The name that a name is told by, among these. It is looked up once.
     fn told_name(&self, name: u64) -> u64
         ensures { result ≡ told_by self.now name }
     {
-        if is_kept(&self.counts, name) {
+        let place = self.listed.place(name);
+        if self.listed.is_kept(name, place) {
             return name;
         }
-        let place = self.places.get(name).unwrap_or(self.firsts);
         self.spare.get(place as usize).copied().unwrap_or(0)
     }
 }
 
-/// The place of each name of a list among their first occurrences, and how many these are.
-fn places_of(alloc: Global, names: &[u64]) -> Result<(NameTable, u32), AllocError>
+/// The different names of a list.
+fn list_names(alloc: Global, names: &[u64]) -> Result<Listed, AllocError>
     requires { length names.now < u32.MAX }
-    ensures { IfOk result (λ places. ArePlaces names.now places.0 places.1) }
+    ensures { IfOk result (AreListed names.now) }
 {
     let mut places = NameTable::new(alloc, names)?;
     let mut firsts = 0u32;
+    let mut single = Vec::new(alloc);
     for name in names {
-        if places.get(*name).is_none() {
+        if let Some(place) = places.get(*name) {
+            note_again(&mut single, place);
+        } else {
             places.set(*name, firsts)?;
             firsts += 1;
+            single.push(true)?;
         }
     }
-    Ok((places, firsts))
+    Ok(Listed {
+        places,
+        firsts,
+        single,
+    })
 }
 
-/// How often each name of a list occurs there that may stand in a text.
-fn counts_of(alloc: Global, names: &[u64]) -> Result<NameTable, AllocError>
-    requires { length names.now < u32.MAX }
-    ensures { IfOk result (AreCounts names.now) }
+/// Notes that the name at a place occurs again.
+fn note_again(single: &mut Vec<bool>, place: u32)
+    ensures len { length single.new.items ≡ length single.old.items }
+    ensures each { (j : ℕ) → get_or single.new.items j false
+        ≡ if place == j then false else get_or single.old.items j false }
 {
-    let mut counts = NameTable::new(alloc, counted_among(names))?;
-    for name in names {
-        if *name <= MAX_NAME {
-            let count = counts.get(*name).unwrap_or(0);
-            counts.set(*name, count + 1)?;
-        }
-    }
-    Ok(counts)
-}
-
-/// The names that a table of counts is laid out for: none, if none of these may stand in a text.
-fn counted_among(names: &[u64]) -> &[u64] {
-    if names.iter().any(|name| *name <= MAX_NAME) {
-        names
-    } else {
-        &[]
+    if (place as usize) < single.len() {
+        single[place as usize] = false;
     }
 }
 
-/// Whether a name is kept, among names that are counted so.
-fn is_kept(counts: &NameTable, name: u64) -> bool
-    ensures { result ≡ is_counted_kept (counted counts.now name) name }
+/// The first numbers that are no names which are kept, among names that are listed so: one more than the names that are
+/// different, or all.
+fn spare_numbers(alloc: Global, names: &[u64], listed: &Listed) -> Result<Vec<u64>, AllocError>
+    requires { AreListed names.now listed.now }
+    ensures { IfOk result (λ spare. AreSpare names.now listed.now.firsts spare.items) }
 {
-    name <= MAX_NAME && counts.get(name).unwrap_or(0) == 1
-}
-
-/// The first numbers that are no names which are kept, among names that are counted so: one more than so many, or all.
-fn spare_numbers(
-    alloc: Global,
-    names: &[u64],
-    counts: &NameTable,
-    firsts: u32,
-) -> Result<Vec<u64>, AllocError>
-    requires { AreCounts names.now counts.now }
-    ensures { IfOk result (λ spare. AreSpare names.now firsts spare.items) }
-{
-    let mut spare = Vec::with_capacity(alloc, (firsts as usize).saturating_add(1))?;
+    let firsts = listed.firsts as usize;
+    let mut spare = Vec::with_capacity(alloc, firsts.saturating_add(1))?;
     for number in 0..names.len() as u64 + names.len() as u64 {
-        if spare.len() > firsts as usize {
+        if spare.len() > firsts {
             return Ok(spare);
         }
-        if !is_kept(counts, number) {
+        let place = listed.place(number);
+        if !listed.is_kept(number, place) {
             spare.push(number)?;
         }
     }

@@ -12,8 +12,8 @@ returns-then-len-firsts c =
     let names = c.args.names.now in
     let spare = c.loop-number.spare.items in
     let within : c.loop-number.number ≤ length names + length names = omega (arith, c.loop-number-test.true) in
-    let long : c.args.firsts < length spare = omega (arith, c.len.ensures) in
-    spare_front names spare c.loop-number.number c.args.firsts within c.loop-number.invariant long
+    let long : c.args.listed.now.firsts < length spare = omega (arith, c.len.ensures) in
+    spare_front names spare c.loop-number.number c.args.listed.now.firsts within c.loop-number.invariant long
 
 pub returns : goal.returns
 returns c = λ k low.
@@ -26,7 +26,7 @@ loop-number-preserved c =
     let names = c.args.names.now in
     let k = c.loop-number.number in
     let so_far = c.loop-number.spare.items in
-    let known : c.is_kept.result ≡ is_kept names k = c.is_kept.ensures ∙ kept_so names c.args.counts.now c.requires k in
+    let known : c.is_kept.result ≡ is_kept names k = c.is_kept.ensures ∙ kept_so names c.args.listed.now c.requires k in
     elim c.if-not-is_kept.branch [
       | then-not-is_kept+in_ok-push w ↦ rw (w.spare-is, w.in_ok-push.ensures.items) (one_spare (is_kept names) k so_far c.loop-number.invariant (sym known ∙ w.if-not-is_kept.true))
       | else-not-is_kept w ↦ rw w.spare-is (one_taken (is_kept names) k so_far c.loop-number.invariant (sym known ∙ w.if-not-is_kept.false))
