@@ -1,6 +1,6 @@
 -- The numbers that names have: none in new rows, and one more after a call.
-use Rattle.std.proofs.Common.{◌≡◌, ℕ, zero, suc, ◌<◌, ◌^◌, ◌-◌, ◌==◌, ◌&&◌, List, [], ◌∷◌, Bool, true, false, cond, Option, None, Some, slice_get, nat_le, refl, sym, ap, ◌∙◌, arith}
-use Rattle.std.specs.Prelude.{is_some}
+use Rattle.std.proofs.Common.{◌≡◌, ℕ, zero, suc, ◌<◌, ◌^◌, ◌-◌, ◌&&◌, List, [], ◌∷◌, Bool, true, false, cond, Option, None, Some, Result, Ok, Err, slice_get, nat_le, refl, sym, ap, ◌∙◌, arith}
+use Rattle.std.specs.Prelude.{is_some, OnErr}
 use Rattle.std.specs.List.{AllByRecursion}
 use Rattle.std.proofs.lemmas.Option.{none-some}
 use Rattle.std.proofs.lemmas.Bool.{eq-eqb, ne_eqb, true≢false}
@@ -9,6 +9,11 @@ use Rattle.ic_names.specs.declared.row.TheConstants.{NONE}
 use Rattle.ic_names.specs.Row.{column_of, row_of}
 use Rattle.ic_names.specs.Table.{slot_at, slot_in, slot_of, told}
 use Rattle.ic_names.specs.inner.Rows.{IsBlank}
+
+-- what holds of every error
+pub on_err : {A E P : Type 0} (r : Result A E) → P → OnErr r P
+on_err (Ok a) p = tt
+on_err (Err e) p = p
 
 -- ---- new rows
 

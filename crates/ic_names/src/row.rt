@@ -18,26 +18,17 @@ const LETTERS: u64 = 26;
 /// How many rows there are: one for each letter, and one for all other names.
 pub(crate) const ROWS: usize = 27;
 
-/// The row that a name stands in.
-pub(crate) fn row_of(name: u64) -> usize
-    ensures row { result ≡ row_of name }
-    ensures within { result < ROWS }
+/// The row that a name stands in, and where it stands there.
+#[inline(always)]
+pub(crate) fn place_of(name: u64) -> (usize, u64)
+    ensures row { result.0 ≡ row_of name }
+    ensures within { result.0 < ROWS }
+    ensures column { result.1 ≡ column_of name }
 {
     if name < LETTERED {
-        (name % LETTERS) as usize
+        ((name % LETTERS) as usize, name / LETTERS)
     } else {
-        LETTERS as usize
-    }
-}
-
-/// Where in its row a name stands.
-pub(crate) fn column_of(name: u64) -> u64
-    ensures { result ≡ column_of name }
-{
-    if name < LETTERED {
-        name / LETTERS
-    } else {
-        name
+        (LETTERS as usize, name)
     }
 }
 

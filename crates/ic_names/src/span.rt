@@ -4,7 +4,7 @@ ghost use Rattle.std.specs.Prelude.{◌≡◌, ◌<◌, length, IfOk};
 ghost use Rattle.std.specs.List.{AllByRecursion};
 ghost use Rattle.ic_names.specs.inner.Rows.{IsBlank};
 
-use crate::row::{ROWS, Row, column_of, row_of};
+use crate::row::{ROWS, Row, place_of};
 use std::alloc::{AllocError, Global};
 
 /// How many slots a row has for each name that was counted in it, at most.
@@ -63,8 +63,8 @@ pub(crate) fn rows_for(alloc: Global, names: &[u64]) -> Result<Vec<Row>, AllocEr
 fn spans_of(alloc: Global, names: &[u64]) -> Result<Vec<Span>, AllocError> {
     let mut spans = vec![in alloc; Span::new(); ROWS]?;
     for name in names {
-        let row = row_of(*name);
-        spans[row] = spans[row].with(column_of(*name));
+        let (row, column) = place_of(*name);
+        spans[row] = spans[row].with(column);
     }
     Ok(spans)
 }

@@ -1,4 +1,4 @@
-use Rattle.std.proofs.Common.{◌≡◌, ℕ, None, Some, cond, sym, ap, ◌∙◌}
+use Rattle.std.proofs.Common.{◌≡◌, None, Some, cond, sym, ap, ◌∙◌}
 use Rattle.std.specs.Ordering.{nat_cmp}
 use Rattle.std.specs.BTreeMap.{get}
 use Rattle.std.proofs.lemmas.Bool.{eq-eqb, ne_eqb}
@@ -24,4 +24,4 @@ pub returns-in-None : goal.returns-in-None
 unfolding found
 returns-in-None c =
     let here : slot_of c.args.self.now.rows.items c.args.name ≡ None = ap (λ rows. slot_of rows c.args.name) (sym c.deref.ensures.value) ∙ sym c.slot.ensures ∙ c.in-None.is in
-    c.copied.ensures ∙ c.get.ensures.value ∙ sym (ap (λ o. told o (get nat_cmp c.args.self.now.others c.args.name)) here)
+    c.get_other.ensures ∙ sym (ap (λ o. told o (get nat_cmp c.args.self.now.others c.args.name)) here)
