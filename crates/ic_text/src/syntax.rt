@@ -59,6 +59,7 @@ pub(crate) struct State {
 }
 
 /// What follows a word where an agent may begin.
+#[inline(always)]
 fn agent_spot(text: &[u8]) -> Option<Spot>
     ensures { result ≡ agent_spot text.now }
 {
