@@ -13,13 +13,15 @@ use ic_flat::Word;
 use ic_machine::Builder;
 use std::alloc::{AllocError, Global};
 
-/// Turns the registers after so many first ones round.
+/// Turns the registers after so many first ones round, where there is more than one of them.
 fn turn(operands: &mut Vec<u32>, first: usize)
     requires { first ≤ vec_len operands.old }
     ensures { operands.new.items
         ≡ take first operands.old.items ++ reverse (drop first operands.old.items) }
 {
-    operands[first..].reverse();
+    if operands.len() - first > 1 {
+        operands[first..].reverse();
+    }
 }
 
 /// Makes an agent of as many registers from the top of the stack, and answers its own register.
