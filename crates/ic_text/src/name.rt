@@ -8,6 +8,7 @@ ghost use Rattle.ic_text.specs.Name.{is_name, is_numeral, number_in, name_number
 
 use crate::limits::MAX_NAME;
 
+#[inline(always)]
 fn are_digits(text: &[u8]) -> bool
     ensures { result ≡ list_all is_ascii_digit text.now }
 {
@@ -20,6 +21,7 @@ fn are_digits(text: &[u8]) -> bool
 }
 
 /// Whether a byte list is nothing, or digits without a leading zero.
+#[inline(always)]
 pub fn is_numeral(text: &[u8]) -> bool
     ensures { result ≡ is_numeral text.now }
 {
@@ -69,6 +71,7 @@ pub fn number_in(digits: &[u8]) -> Option<u64>
 }
 
 /// The number of a name, where it isn't too great.
+#[inline(always)]
 pub(crate) fn name_number(text: &[u8]) -> Option<u64>
     requires { IsTrue (is_name text.now) }
     ensures { result ≡ up_to MAX_NAME (name_number text.now) }
