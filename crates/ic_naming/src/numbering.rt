@@ -50,6 +50,7 @@ impl Listed {
     ghost use Rattle.ic_naming.specs.inner.Numbering.{is_listed_kept, place_in};
 
     /// The place of a name, or that after all.
+    #[inline(always)]
     fn place(&self, name: u64) -> u32
         ensures { result ≡ place_in self.now name }
     {
@@ -57,6 +58,7 @@ impl Listed {
     }
 
     /// Whether a name with this place is kept.
+    #[inline(always)]
     fn is_kept(&self, name: u64, place: u32) -> bool
         requires { place ≡ place_in self.now name }
         ensures { result ≡ is_listed_kept self.now name }
