@@ -158,6 +158,8 @@ class Check(Trial):
             ((path, _),) = self.put(f"\nsubmit one {text}\nlist")
             self.runs("check", path, out=[f"{path}:2: warning: {it}" for it in told])
         self.tells(self.put("<A|>", "<|A=B>"))
+        # Neither the name of a job nor its budget is a symbol of its text.
+        self.tells(self.put("submit A 2 {A><B(x)} <A(x,y)|>\nsubmit job 2 {2><B(x)} <2(x,y)|>"))
 
     def test_the_texts_and_sessions_in_examples(self):
         paths = sorted([*TOP.glob("examples/*.ic"), *TOP.glob("examples/*.session")])

@@ -111,13 +111,16 @@ pub(crate) fn same_before(text: &[u8], at: usize) -> Option<(u64, usize)> {
     None
 }
 
-/// Where a word stands first in a text, if it does.
+/// Where a word stands first in the rules and the configuration of a text, or of a line that submits one, if it does. What stands
+/// before them is no part of the system: the name of a job, and its budget.
 pub(crate) fn first_place(word: &[u8], text: &[u8]) -> Option<usize> {
+    let mut is_within = false;
     let mut goes_on = false;
     for (place, byte) in text.iter().enumerate() {
-        if !goes_on && first_word(&text[place..]) == word {
+        if is_within && !goes_on && first_word(&text[place..]) == word {
             return Some(place);
         }
+        is_within = is_within || matches!(*byte, b'{' | b'<');
         goes_on = is_word_byte(*byte);
     }
     None
