@@ -1,7 +1,6 @@
 use Rattle.std.proofs.Common.{◌≡◌, ◌+◌, Err, ap, arith, refl}
 use Rattle.std.proofs.lemmas.Result.{err_from_is_err_and}
 use Rattle.ic_machine.specs.declared.machine.MachineFault.TheVariants.{Limit}
-use Rattle.ic_machine.specs.Runs.{Ran}
 use Rattle.ic_machine.proofs.Limits.{same_fault}
 use Rattle.ic_machine.specs.lemmas.RunsOn.{ran_none, ran_on}
 use Rattle.ic_machine.proofs.machine.Machine.run_all.Goals as goal

@@ -1,6 +1,6 @@
 use Rattle.std.proofs.Common.{◌≡◌, ℕ, ◌+◌, ◌∷◌, [], ◌++◌, List, Some, IfSome, arith, slice_get, slice_index_or, map, subst, sym, ap, ◌∙◌}
 use Rattle.std.proofs.lemmas.List.{map-append}
-use Rattle.ic_machine.specs.Plan.{Plans, ArePlans, planned, plan_of}
+use Rattle.ic_machine.specs.Plan.{Plans, planned, plan_of}
 use Rattle.ic_machine.specs.lemmas.PairLaws.{no_number, plans_added}
 use Rattle.ic_machine.specs.inner.Tables.{IsProgram, size_of}
 use Rattle.ic_machine.proofs.Needs.{need_added, read_there}
