@@ -16,7 +16,7 @@ use Rattle.ic_machine.specs.Steps.{no_step}
 use Rattle.ic_machine.specs.inner.Firing.{arities_of, table}
 use Rattle.ic_machine.specs.inner.Pairs.{CanFire, HasPlan}
 use Rattle.ic_machine.specs.inner.Queue.{Queued}
-use Rattle.ic_machine.specs.inner.Tables.{FiresEach, HasMemory, HasRoomFor, NeedAtMost, arguments_of, held, size_at, size_of}
+use Rattle.ic_machine.specs.inner.Tables.{FiresEach, HasMemory, HasRoomFor, HasSpare, NeedAtMost, arguments_of, held, size_at, size_of}
 use Rattle.ic_machine.specs.lemmas.FiresKeep.{steps_keep}
 use Rattle.ic_machine.specs.lemmas.RunsOn.{counted_none, counted_on, way_on, way_steps}
 use Rattle.ic_machine.proofs.Fired.{left_table, right_table}
@@ -36,6 +36,13 @@ room_less m n t le r =
       pending = omega arith;
       heaps = λ s lt. blocks_fewer m n (table t.heaps.items s) le (r.heaps s lt);
     }
+
+-- so much of it may be spare, and all of it
+pub spare_some : (m n : ℕ) (t : Tables) → t.spare + m ≡ n → HasRoomFor n t → HasSpare t
+spare_some m n t is r = λ some. room_less t.spare n t (omega (arith, is)) r
+
+pub spare_all : (n : ℕ) (t : Tables) → HasRoomFor n t → HasSpare (record t { spare = n })
+spare_all n t r = λ some. record { names = r.names; few = r.few; pending = r.pending; heaps = r.heaps }
 
 -- and where fewer are pending
 pub room_popped : (n : ℕ) (t : Tables) (q : Queued) → length q.items ≤ length t.pending.items → q.capacity ≡ t.pending.capacity

@@ -191,6 +191,8 @@ impl Machine {
         let fired = self
             .tables
             .fire_each::<STAMPED>(program, &mut self.counts, most, times);
+        // What a pair without a plan left over is spare again.
+        self.tables.spare += (times - fired) as usize * most;
         self.interactions += fired;
         fired
     }

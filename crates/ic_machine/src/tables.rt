@@ -330,7 +330,7 @@ impl Tables {
         ensures few { length self.new.names.entries < 2 ^ 32 }
         ensures registers { take (length self.new.heaps.items) self.new.registers.items
             ≡ constants (length self.new.heaps.items) }
-        ensures spare { HasSpare self.new }
+        ensures left { HasRoomFor (self.new.spare + (times - result) * most) self.new }
     {
         // Each plan is counted, so that this isn't asked for each pair.
         if counts.len() < program.plans().len() {
@@ -381,7 +381,7 @@ impl Tables {
         ensures few { length self.new.names.entries < 2 ^ 32 }
         ensures registers { take (length self.new.heaps.items) self.new.registers.items
             ≡ constants (length self.new.heaps.items) }
-        ensures spare { HasSpare self.new }
+        ensures left { HasRoomFor (self.new.spare + (times - result) * most) self.new }
     {
         // Each plan is counted, so that this isn't asked for each pair.
         if counts.len() < program.plans().len() {

@@ -1,4 +1,4 @@
-use Rattle.std.proofs.Common.{◌≡◌, ◌+◌, ◌^◌, ◌<◌, ◌≤◌, ℕ, [], length, map, ap, sym, subst, ◌∙◌, arith}
+use Rattle.std.proofs.Common.{◌≡◌, ◌+◌, ◌-◌, ◌*◌, ◌^◌, ◌<◌, ◌≤◌, ℕ, [], length, map, ap, sym, subst, refl, ◌∙◌, arith}
 use Rattle.std.specs.List.{AllByRecursion}
 use Rattle.ic_arena.specs.Tables.{names_pieces}
 use Rattle.ic_machine.specs.declared.machine.Machine.TheInside.{Inside}
@@ -13,6 +13,7 @@ use Rattle.ic_machine.specs.inner.Tables.{FiresEach, HasSpare, held}
 use Rattle.ic_machine.specs.lemmas.FiringKeeps.{all_of}
 use Rattle.ic_machine.specs.lemmas.RunsOn.{ran_none}
 use Rattle.ic_machine.proofs.Changed.{changed, changed_ran, changed_sound, with_spare, with_spare_sound}
+use Rattle.ic_machine.proofs.Each.{spare_all, spare_some}
 use Rattle.ic_machine.proofs.Running.{held_separate}
 use Rattle.ic_machine.proofs.Sound.{counts_all, wide_enough}
 use Rattle.ic_machine.proofs.machine.Machine.run_spare.Goals as goal
@@ -75,16 +76,19 @@ pub invariant_of-self-2 : goal.invariant_of-self-2
 invariant_of-self-2 g c =
     let d = (goal.at.invariant_of-self-2 g c).After-fire_each-fired in
     let m : Inside = with_spare c.self.inside c.spare_for-times.new.self.spare in
+    let v : Tables = c.fire_each-fired.new.self in
+    let k : ℕ = c.self.inside.interactions + c.fire_each-fired.result in
+    let left : ℕ = (c.spare_for-times.result - c.fire_each-fired.result) * c.in-Some.most in
     let each = fired g d in
     let e = c.fire_each-fired.ensures in
-    changed_sound c.args.program.now m c.fire_each-fired.new.self (c.self.inside.interactions + c.fire_each-fired.result)
-    c.fire_each-fired.new.counts (arities g d) (ran g d)
+    with_spare_sound (changed m v k c.fire_each-fired.new.counts) (v.spare + left)
+    (changed_sound c.args.program.now m v k c.fire_each-fired.new.counts (arities g d) (ran g d)
     (with_spare_sound c.self.inside c.spare_for-times.new.self.spare c.self.invariant
     (subst HasSpare c.spare_for-times.ensures.same c.spare_for-times.ensures.spare)) c.most.ensures.sound (known g d)
-    e.pairs e.few e.registers e.spare
+    e.pairs e.few e.registers (spare_some left (v.spare + left) v refl e.left)
     (subst (λ (k : ℕ). AllByRecursion (λ n. n ≤ c.self.inside.interactions + k) c.fire_each-fired.new.counts.items) each.counted
     (counts_all each.fired c.self.inside.interactions c.self.inside.counts.items c.fire_each-fired.new.counts.items
-    c.self.invariant.counts each.tally))
+    c.self.invariant.counts each.tally))) (spare_all (v.spare + left) v e.left)
 
 pub returns-clause-ran : goal.returns-clause-ran
 returns-clause-ran g c =

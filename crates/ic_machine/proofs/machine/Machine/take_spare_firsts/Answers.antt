@@ -1,4 +1,4 @@
-use Rattle.std.proofs.Common.{◌≡◌, ◌+◌, ◌-◌, ◌^◌, ◌<◌, ◌≤◌, ℕ, List, [], ◌++◌, length, map, ap, sym, subst, ◌∙◌, arith}
+use Rattle.std.proofs.Common.{◌≡◌, ◌+◌, ◌-◌, ◌*◌, ◌^◌, ◌<◌, ◌≤◌, ℕ, List, [], ◌++◌, length, map, ap, sym, subst, refl, ◌∙◌, arith}
 use Rattle.std.specs.List.{AllByRecursion}
 use Rattle.ic_arena.specs.Tables.{names_pieces}
 use Rattle.ic_machine.specs.declared.generation.Generation.{Generation}
@@ -16,6 +16,7 @@ use Rattle.ic_machine.specs.lemmas.FiringKeeps.{all_of}
 use Rattle.ic_machine.specs.lemmas.GenerationsOn.{advances_none}
 use Rattle.ic_machine.proofs.Advancing.{firsts_taken}
 use Rattle.ic_machine.proofs.Changed.{changed, changed_ran, changed_ran-fired, changed_sound, with_spare, with_spare_sound}
+use Rattle.ic_machine.proofs.Each.{spare_all, spare_some}
 use Rattle.ic_machine.proofs.Running.{held_separate}
 use Rattle.ic_machine.proofs.Sound.{counts_all, wide_enough}
 use Rattle.ic_machine.proofs.machine.Machine.take_spare_firsts.Goals as goal
@@ -111,16 +112,19 @@ fire_firsts-fired-requires-clause-counts c =
 pub invariant_of-self-2 : goal.invariant_of-self-2
 invariant_of-self-2 c =
     let d = (goal.at.invariant_of-self-2 c).After-fire_firsts-fired in
+    let v : Tables = c.fire_firsts-fired.new.self in
+    let left : ℕ = (c.spare_for-times.result - c.fire_firsts-fired.result) * c.in-Some.most in
     let each = (firsts d).each in
     let e = c.fire_firsts-fired.ensures in
-    changed_sound c.args.program.now (before d) c.fire_firsts-fired.new.self
-    (c.self.inside.interactions + c.fire_firsts-fired.result) c.fire_firsts-fired.new.counts (arities d) (ran d)
+    with_spare_sound (after d) (v.spare + left)
+    (changed_sound c.args.program.now (before d) v (c.self.inside.interactions + c.fire_firsts-fired.result)
+    c.fire_firsts-fired.new.counts (arities d) (ran d)
     (with_spare_sound c.self.inside c.spare_for-times.new.self.spare c.self.invariant
     (subst HasSpare c.spare_for-times.ensures.same c.spare_for-times.ensures.spare)) c.most.ensures.sound (known d)
-    e.pairs e.few e.registers e.spare
+    e.pairs e.few e.registers (spare_some left (v.spare + left) v refl e.left)
     (subst (λ (k : ℕ). AllByRecursion (λ n. n ≤ c.self.inside.interactions + k) c.fire_firsts-fired.new.counts.items) each.counted
     (counts_all each.fired c.self.inside.interactions c.self.inside.counts.items c.fire_firsts-fired.new.counts.items
-    c.self.invariant.counts each.tally))
+    c.self.invariant.counts each.tally))) (spare_all (v.spare + left) v e.left)
 
 pub returns-clause-advances : goal.returns-clause-advances
 returns-clause-advances c = (on (goal.at.returns-clause-advances c).After-fire_firsts-fired).0
