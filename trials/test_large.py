@@ -48,8 +48,8 @@ class Large(Texts):
         killed = 0
         for moment in range(10):
             with self.engine("sh", "-c", command) as engine:
-                self.waits_for(lambda: engine.ended() is not None or self.answered_texts() >= 4 * moment, 120)
-                time.sleep(0.3 * draw.random())
+                self.waits_for(lambda: engine.ended() is not None or self.answered_texts() >= 3 * moment, 120)
+                time.sleep(0.05 * draw.random())
                 killed += engine.ended() is None
                 if moment % 3 == 1:
                     engine.kill_shells("large")

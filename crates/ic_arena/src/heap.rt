@@ -78,6 +78,7 @@ impl Heap {
     }
 
     /// Takes the memory for so many words more.
+    #[inline(always)]
     pub fn reserve(&mut self, more: usize) -> Result<(), AllocError>
         ensures arity { self.new.arity ≡ self.old.arity }
         ensures count { self.new.count ≡ self.old.count }

@@ -142,6 +142,7 @@ impl Places {
 
     /// Takes the arguments of an agent out of its place, and puts them onto a stack, the last one first, so that the first
     /// is on top. Answers false where no agent with arguments is at the place of this word.
+    #[inline(always)]
     pub fn take_arguments(&mut self, agent: Word, stack: &mut Vec<Word>) -> Result<bool, AllocError>
         ensures taken { result ≡ Ok true
             → ArgumentsTaken agent self.old self.new stack.old.items stack.new.items }
@@ -186,7 +187,9 @@ pub(crate) fn turn(words: &mut Vec<Word>, first: usize)
     requires { first ≤ vec_len words.old }
     ensures { words.new.items ≡ take first words.old.items ++ reverse (drop first words.old.items) }
 {
-    words[first..].reverse();
+    if words.len() - first > 1 {
+        words[first..].reverse();
+    }
 }
 
 /// How many places there are in tables, the free ones too.

@@ -1,6 +1,6 @@
 //! Printing a configuration in flat form, word by word.
 
-ghost use Rattle.std.specs.Prelude.{◌≡◌, ◌+◌, ◌*◌, ◌<◌, ◌≤◌, ◌++◌, [], length, take, drop, reverse, IfOk, OnOk, IsTrue};
+ghost use Rattle.std.specs.Prelude.{◌≡◌, ◌+◌, ◌*◌, ◌<◌, ◌≤◌, ◌++◌, [], length, take, drop, reverse, vec_capacity, vec_len, IfOk, OnOk, IsTrue};
 ghost use Rattle.std.specs.List.{list_all};
 ghost use Rattle.ic_term.specs.Symbol.{is_over};
 ghost use Rattle.ic_flat.specs.Words.{arguments, forest, IsWhole, is_word_over};
@@ -14,36 +14,30 @@ use ic_flat::{Flat, Word};
 use ic_term::Symbols;
 use std::alloc::{AllocError, Global};
 
-/// Up to so many bytes are pushed one by one.
-const FEW: usize = 3;
+/// Up to so many bytes are put one by one.
+const FEW: usize = 8;
 
-/// Appends the text of a symbol. Most have a few bytes, and pushing these takes less than a copy does.
+/// Appends the text of a symbol, and takes memory for a byte more. Most have a few bytes, and putting these takes less than a
+/// copy does.
 #[inline(always)]
 fn put_symbol(text: &[u8], out: &mut Vec<u8>) -> Result<(), AllocError>
-    ensures { OnOk result (out.new.items ≡ out.old.items ++ text.now) }
+    ensures text { OnOk result (out.new.items ≡ out.old.items ++ text.now) }
+    ensures room { OnOk result (vec_len out.new < vec_capacity out.new) }
 {
     if text.len() > FEW {
-        return out.extend_from_slice(text);
+        out.extend_from_slice(text)?;
+        return out.reserve(1);
     }
+    out.reserve(text.len() + 1)?;
     for byte in text {
-        out.push(*byte)?;
+        out.push_reserved(*byte);
     }
     Ok(())
 }
 
-/// Appends the text of a name or of a symbol.
-fn put_head(symbols: &Symbols, word: Word, out: &mut Vec<u8>) -> Result<(), AllocError>
-    requires { IsTrue (is_word_over symbols.now word) }
-    ensures { OnOk result (out.new.items ≡ out.old.items ++ word_text symbols.now word) }
-{
-    match word {
-        Word::Name(name) => put_name(name, out),
-        Word::Agent(sym, _) => put_symbol(symbols.text(sym), out),
-    }
-}
-
 /// Appends what follows a term, up to the next one: closes each agent that has all its arguments. Tells whether a
 /// further term comes.
+#[inline(always)]
 fn close(due: &mut Vec<usize>, out: &mut Vec<u8>) -> Result<bool, AllocError>
     ensures { IfOk result (λ more. Begins (closing (reverse due.old.items))
         (lacking (reverse due.old.items)) out.old.items out.new.items more
@@ -60,15 +54,18 @@ fn close(due: &mut Vec<usize>, out: &mut Vec<u8>) -> Result<bool, AllocError>
     Ok(false)
 }
 
-/// Appends what follows a word of so many arguments, up to the next one. Tells whether a further term comes.
+/// Appends what follows a word of so many arguments, up to the next one. Tells whether a further term comes. There is memory for
+/// a byte.
+#[inline(always)]
 fn put_mark(arguments: usize, due: &mut Vec<usize>, out: &mut Vec<u8>) -> Result<bool, AllocError>
+    requires { vec_len out.old < vec_capacity out.old }
     ensures { IfOk result (λ more. Begins (after_word arguments (reverse due.old.items))
         (arguments + lacking (reverse due.old.items)) out.old.items out.new.items more
         (reverse due.new.items)) }
 {
     if arguments > 0 {
         due.push(arguments - 1)?;
-        out.push(b'(')?;
+        out.push_reserved(b'(');
         return Ok(true);
     }
     close(due, out)
@@ -87,8 +84,16 @@ fn put_word(
         (arguments word + lacking (reverse due.old.items)) out.old.items out.new.items more
         (reverse due.new.items)) }
 {
-    put_head(symbols, word, out)?;
-    put_mark(word.arguments(), due, out)
+    match word {
+        Word::Name(name) => {
+            put_name(name, out)?;
+            close(due, out)
+        }
+        Word::Agent(sym, arguments) => {
+            put_symbol(symbols.text(sym), out)?;
+            put_mark(arguments, due, out)
+        }
+    }
 }
 
 /// Appends the term that begins at a place, and tells the place after it. The list is empty before and after: it holds

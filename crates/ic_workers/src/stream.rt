@@ -50,7 +50,7 @@ pub fn reduce_by_workers_stream<T: Threads + Sync, C: Clock + Sync, V: Watch, R:
 {
     let text = read_text_within(alloc, limits, reader)?;
     let (line, outcome) = reached_line(
-        rt, clock, alloc, limits, policy, bounds, asked, watch, &text, told,
+        rt, clock, alloc, limits, policy, bounds, asked, watch, text, told,
     )?;
     write_line(writer, &line)?;
     Ok(outcome)
@@ -66,23 +66,24 @@ fn reached_line<T: Threads + Sync, C: Clock + Sync, V: Watch>(
     bounds: Bounds,
     asked: Asked,
     watch: &V,
-    text: &[u8],
+    text: Vec<u8>,
     told: &mut Vec<u8>,
 ) -> Result<(Vec<u8>, Outcome), StreamFault>
     ensures line { IfOk result
-        (λ answer. EndsAs limits bounds asked text.now answer.1 answer.0.items) }
+        (λ answer. EndsAs limits bounds asked text.items answer.1 answer.0.items) }
     ensures refused { IfErr result
-        (λ fault. FaultOf (ReducesInPlace limits bounds asked) text.now fault) }
+        (λ fault. FaultOf (ReducesInPlace limits bounds asked) text.items fault) }
     ensures quiet { OnOk result (told.new.items ≡ told.old.items) }
     ensures sort { IfErr result
         (λ fault. (fault ≢ StreamFault.Write) × (fault ≢ StreamFault.Read)) }
 {
-    let system = match find_wide_system(alloc, limits, text) {
+    let system = match find_wide_system(alloc, limits, &text) {
         Ok(found) => found,
         Err(misread) => {
-            return Err(refused_within(alloc, limits, Kind::System, text, misread, told));
+            return Err(refused_within(alloc, limits, Kind::System, &text, misread, told));
         }
     };
+    drop(text);
     let answer = line_by_workers(rt, clock, alloc, system, policy, bounds, asked, watch)?;
     Ok(answer)
 }
