@@ -23,8 +23,11 @@ pub struct Pace {
     pub piece: u64,
 }
 
-/// How many interactions the first piece makes.
-const FIRST: u64 = 1 << 22;
+/// How many interactions a piece makes at least.
+const LEAST: u64 = 1 << 22;
+
+/// How many interactions the first piece makes for each second that it should go on. Few machines make fewer in a second.
+const EACH_SECOND: u64 = 1 << 23;
 
 /// How many interactions a piece makes at most.
 const MOST: u64 = 1 << 60;
@@ -36,14 +39,16 @@ const GROWTH: u64 = 64;
 const BESIDE_KEEP: u64 = 10;
 
 impl Pace {
-    /// A pace of pieces that go on for so many milliseconds.
+    /// A pace of pieces that go on for so many milliseconds. The first one makes 2^23 interactions for each whole second of these,
+    /// and 2^22 at least, since it isn't known yet how long they take.
     pub fn new(every: u64) -> Pace
         ensures every { result.every ≡ every }
-        ensures first { result.piece ≡ 2 ^ 22 }
+        ensures first { result.piece ≡ max (2 ^ 22) (min (every / 1000 * 2 ^ 23) (2 ^ 60)) }
     {
+        let piece = (every / 1_000).saturating_mul(EACH_SECOND);
         Pace {
             every,
-            piece: FIRST,
+            piece: piece.min(MOST).max(LEAST),
         }
     }
 
@@ -60,7 +65,7 @@ impl Pace {
         let most = self.piece.saturating_mul(GROWTH);
         let lasts = aside.saturating_mul(BESIDE_KEEP).max(self.every);
         let even = (self.piece / took.max(1)).saturating_mul(lasts);
-        let piece = even.max(least).min(most).min(MOST).max(FIRST);
+        let piece = even.max(least).min(most).min(MOST).max(LEAST);
         Pace {
             every: self.every,
             piece,

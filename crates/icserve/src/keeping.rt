@@ -114,11 +114,27 @@ fn live_in<'a, T: Threads + Sync, R: Read>(
     told: &mut Vec<u8>,
 ) -> Result<(Ended, Keeper<NotedDisk<'a>>), Failure> {
     let (from, first, second) = open_kept(rt, kept, input, notes, told)?;
-    let pace = Pace::new(kept.seconds.saturating_mul(1_000));
+    let pace = pace_of(kept, wanted.policy.workers);
     let rounds = kept.rounds.unwrap_or(MAX_ROUNDS);
     live_over(
         rt, threads, from, first, second, bounds, rounds, pace, wanted, watching,
     )
+}
+
+/// How often it is kept. Of a text each thread should make as many interactions at first as one by itself. What is resumed may go
+/// by rounds, which one thread makes.
+fn pace_of(kept: KeptIn<'_>, workers: usize) -> Pace {
+    let every = kept.seconds.saturating_mul(1_000);
+    let threads = if kept.begins && kept.rounds.is_none() {
+        workers as u64
+    } else {
+        1
+    };
+    let first = Pace::new(every.saturating_mul(threads));
+    Pace {
+        every,
+        piece: first.piece,
+    }
 }
 
 /// The disks in the two files: as they are, or empty, with what the text on this input begins with.
