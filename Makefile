@@ -48,7 +48,7 @@ dist: # makes a release in out/dist: an archive and a package (UNPROVED=1: not p
 	python3 share/dist.py "$$at" $$name out/dist
 deb: # makes the same: the package of Debian stands beside the archive
 	$(MAKE) dist
-bench: # times the program, beside a plain one of C (WITH=--help tells of more)
+bench: # times the program, beside a plain one of C, and tells their memory (WITH=--help tells of more)
 	mkdir -p out
 	! command -v cc >/dev/null || cc -O2 -o out/plain bench/plain.c
 	program="$$(ICSERVE_BUILD=found ./icserve)"

@@ -1,7 +1,9 @@
 """Times programs on the systems of docs/speed.md, each from its start to its end: the median of some runs, in turn, or the least
-processor time of them."""
+processor time of them. Tells the most memory of each, too, in a run that isn't timed."""
 
 import argparse
+import ctypes
+import itertools
 import os
 import platform
 import re
@@ -16,6 +18,13 @@ from pathlib import Path
 from systems import rows
 
 IN_MEMORY = "/dev/shm" if os.access("/dev/shm", os.W_OK) else None
+
+# Has this process wait for what its children leave behind as they end: a number of Linux, for `prctl`.
+PR_SET_CHILD_SUBREAPER = 36
+
+# A command that starts another one and ends before it. Of a program that this process starts itself, `wait4` tells at least the
+# memory of this process. A shell has little.
+LEAVES = ["sh", "-c", 'exec 3<&0; "$@" <&3 3<&- &', "sh"]
 
 
 class Bench:
@@ -45,6 +54,12 @@ class Bench:
         took, status = self.run([*before, program, *words], self.given)
         return took, status, Path(self.out).read_bytes()
 
+    def first(self, program, row):
+        """A run that isn't timed: how many MB of memory the program had at most, its status, and what it wrote."""
+        self.tried(program, row, LEAVES)
+        _, status, usage = os.wait4(-1, 0)
+        return usage.ru_maxrss * 1024 / 1e6, status, Path(self.out).read_bytes()
+
     def instructions(self, program, row):
         """How many instructions valgrind counts."""
         self.tried(program, row, ["valgrind", "--tool=cachegrind", "--cache-sim=no", "--cachegrind-out-file=/dev/null"])
@@ -66,9 +81,10 @@ class Bench:
 
 
 def figures(bench, row, options):
-    """What a line of the table says of each program: a median of seconds or the least, millions of instructions, and a rate."""
+    """What a line of the table says of each program: a median of seconds or the least, millions of instructions, a rate, and MB of
+    memory."""
     programs = [*options.program, *[options.plain] * bool(options.plain and row.is_in_place())]
-    first = [bench.tried(it, row) for it in programs]
+    first = [bench.first(it, row) for it in programs]
     took = [[bench.tried(it, row)[0] for it in programs] for _ in range(options.times)]
     is_told = row.pairs or row.is_in_place()
     count = bench.interactions(options.program[0], row, first[0][2]) if is_told else 0
@@ -78,16 +94,17 @@ def figures(bench, row, options):
         if options.instructions:
             yield f"{bench.instructions(program, row) / 1e6:.1f}"
         yield f"{count / seconds:,.0f}" if count and seconds else "-"
+        yield f"{tried[0]:.1f}"
         if tried[1:] != first[0][1:]:
             yield "answers otherwise"
     if len(programs) > len(options.program):
         turns = [[min(it) for it in zip(*took)]] if options.least else took
         yield f"{statistics.median(it[0] / (it[-1] or 1e-6) for it in turns):.2f}"
     elif options.plain:
-        yield from ["-"] * (3 + options.instructions)
+        yield from ["-"] * (4 + options.instructions)
     if options.guard:
         # Of each turn, since a machine that is busy slows all programs of a turn.
-        yield f"{statistics.median(it[0] / it[len(options.program) - 1] for it in took):.2f}"
+        yield f"{statistics.median(it[0] / (it[len(options.program) - 1] or 1e-6) for it in took):.2f}"
 
 
 def processor():
@@ -97,15 +114,21 @@ def processor():
     return found[1] if found else platform.machine()
 
 
+def chosen(options):
+    """The rows that are taken, with their numbers: the first ones, or the other ones. A guard takes both, unless it is told which."""
+    is_told = options.others or options.only or not options.guard
+    taken = itertools.chain.from_iterable(rows(options.size, it) for it in ([options.others] if is_told else [False, True]))
+    return ((number, row) for number, row in enumerate(taken, 1) if options.only in row.what)
+
+
 def write(options):
     """Writes what a row gives into a file of its own, and tells how it is taken."""
     folder = Path(options.write)
     folder.mkdir(parents=True, exist_ok=True)
-    for number, row in enumerate(rows(options.size, options.others), 1):
-        if options.only in row.what:
-            path = folder / f"{number:02}"
-            path.write_text(row.given)
-            print(f"{path}: {row.what}: icserve {' '.join(row.words)} < {path}")
+    for number, row in chosen(options):
+        path = folder / f"{number:02}"
+        path.write_text(row.given)
+        print(f"{path}: {row.what}: icserve {' '.join(row.words)} < {path}")
     return 0
 
 
@@ -117,14 +140,14 @@ def main():
     parser = argparse.ArgumentParser(prog="bench", description=__doc__)
     parser.add_argument("program", nargs="+", help="the paths of programs: the first tells how many interactions there are")
     parser.add_argument("--plain", metavar="P", help="takes bench/plain.c, compiled into P, beside them where nets are reduced in place, and tells the first one's time by its")
-    parser.add_argument("--times", type=int, default=7, help="runs of each program (7 if not said), after one that isn't counted")
+    parser.add_argument("--times", type=int, default=7, help="runs of each program (7 if not said), after one that isn't counted, which tells the memory")
     parser.add_argument("--size", type=float, default=1, help="takes each number of a system times this (1 if not said)")
     parser.add_argument("--least", action="store_true", help="tells the least processor seconds of the runs, of all threads, in place of the median of seconds: for a machine that isn't idle")
     parser.add_argument("--others", action="store_true", help="takes the other rows: large texts, nets by 1, 2 and 4 threads, and rounds in place")
     parser.add_argument("--write", metavar="FOLDER", help="writes the texts and lines of the rows into a folder, and times nothing")
     parser.add_argument("--only", default="", metavar="WORD", help="takes only rows that have this word")
     parser.add_argument("--instructions", action="store_true", help="has valgrind count instructions, which takes long")
-    parser.add_argument("--guard", type=float, nargs="?", const=1.15, metavar="R", help="fails where the first program takes more than R times (1.15) as long as the last")
+    parser.add_argument("--guard", type=float, nargs="?", const=1.15, metavar="R", help="fails where the first program takes more than R times (1.15) as long as the last, on any row: all are taken, unless --only or --others picks some")
     options = parser.parse_intermixed_args()
     if options.guard and len(options.program) < 2:
         parser.error("--guard compares two programs")
@@ -132,22 +155,26 @@ def main():
         parser.error("valgrind isn't installed: apt install valgrind")
     if options.write:
         return write(options)
-    heads = ["seconds", *["M instructions"] * options.instructions, "interactions/s"]
+    ctypes.CDLL(None).prctl(PR_SET_CHILD_SUBREAPER, 1, 0, 0, 0)
+    heads = ["seconds", *["M instructions"] * options.instructions, "interactions/s", "MB"]
     print(f"{os.cpu_count()} processors, {processor()}")
     for at, program in enumerate(options.program, 1):
         print(f"{at}: {program}")
     columns = [f"{at}: {it}" for at in range(1, len(options.program) + 1) for it in heads]
-    print(as_line("", [*columns, *(f"plain: {it}" for it in [*heads, "ratio"] if options.plain)]))
-    slower = []
+    columns += [f"plain: {it}" for it in [*heads, "ratio"] if options.plain]
+    print(as_line("", [*columns, *[f"1 by {len(options.program)}"] * bool(options.guard)]))
+    count, slower = 0, []
     with tempfile.TemporaryDirectory(dir=IN_MEMORY) as memory, tempfile.TemporaryDirectory() as disk:
-        for row in rows(options.size, options.others):
-            if options.only in row.what:
-                cells = list(figures(Bench(memory, disk, options.least), row, options))
-                print(as_line(row.what, cells), flush=True)
-                slower += [row.what] if options.guard and float(cells[-1]) > options.guard else []
+        for _, row in chosen(options):
+            cells = list(figures(Bench(memory, disk, options.least), row, options))
+            print(as_line(row.what, cells), flush=True)
+            count += 1
+            slower += [row.what] if options.guard and float(cells[-1]) > options.guard else []
     for it in slower:
         print(f"slower than {options.guard} times: {it}", file=sys.stderr)
-    return 1 if slower else 0
+    if not count:
+        print(f"no row has the word {options.only}", file=sys.stderr)
+    return 0 if count and not slower else 1
 
 
 if __name__ == "__main__":

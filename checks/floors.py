@@ -16,6 +16,12 @@ def uses():
     return {name: [it for it in used.split() if it in dict(found)] for name, used in found}
 
 
+def kit():
+    """The libraries of the kit that crates.txt lists."""
+    found = re.findall(r"(?m)^(\w+) *:(.*)", Path("crates.txt").read_text())
+    return {it for _, used in found for it in used.split()} - {name for name, _ in found}
+
+
 def builds_on():
     """What each crate uses, without what another one of these uses too, also through others."""
     used, all_used = uses(), {}

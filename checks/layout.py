@@ -97,8 +97,9 @@ def the_longest_form_is_said_once():
 
 def layers_are_as_built():
     """docs/layers.md has a row for each crate, under the heading and in the order of crates.txt, with the crates of this
-    repository that it builds on. A crate uses those of the lines before its own alone."""
-    built, told, heading = floors.uses(), {}, ""
+    repository that it builds on. A crate uses those of the lines before its own alone. The page also names each library of
+    the kit that crates.txt lists."""
+    built, told, heading, kit = floors.uses(), {}, "", {}
     wanted = floors.builds_on()
     floor_of = {crate: floor for floor, crates in floors.floors().items() for crate in crates}
     for path, number, line in lines_of("docs/layers.md"):
@@ -110,6 +111,10 @@ def layers_are_as_built():
             if name in built and (set(cells[3]), heading) != (set(wanted[name]), floor_of[name]):
                 builds_on = " ".join(wanted[name]) or "-"
                 yield path, number, f"by crates.txt {name} stands on {floor_of[name]} and builds on {builds_on}"
+        if line.startswith("`crates.txt` also names the libraries of the kit"):
+            kit = dict.fromkeys(re.findall(r"`(\w+)`", line), number)
+    for name in sorted(floors.kit() ^ set(kit)):
+        yield Path("docs/layers.md"), kit.get(name, 1), f"the library {name} stands in one of crates.txt and this page alone"
     for name in sorted(set(built) ^ set(told)):
         yield Path("docs/layers.md"), told.get(name, 1), f"{name} stands in one of crates.txt and this table alone"
     order = list(built)

@@ -37,13 +37,14 @@ class Bench(Trial):
         self.equals(" ".join(command), "status and standard error", (0, ""), (ran.returncode, ran.stderr))
         return [re.split(r" {2,}", it.strip()) for it in ran.stdout.splitlines() if re.match(r"[a-z][a-z0-9 ]*: ", it)]
 
-    def test_each_row_is_printed_with_its_seconds_and_the_interactions_that_are_told(self):
+    def test_each_row_is_printed_with_its_seconds_its_memory_and_the_interactions_that_are_told(self):
         found = self.figures("--size 0.01 --times 1")
         self.equals("make bench", "the rows", [it.what for it in rows(0.01)], [it[0] for it in found])
-        for row, (what, seconds, rate, *plain) in zip(rows(0.01), found):
+        for row, (what, seconds, rate, memory, *plain) in zip(rows(0.01), found):
             self.equals(what, "whether it tells seconds", True, float(seconds) > 0)
+            self.equals(what, f"whether {memory} MB are more than none and less than Python has", True, 0 < float(memory) < 8)
             self.equals(what, "whether it tells interactions", row.pairs > 0 or row.is_in_place(), rate != "-")
-            self.equals(what, "how many figures of the plain program there are", 3 * HAS_COMPILER, len(plain))
+            self.equals(what, "how many figures of the plain program there are", 4 * HAS_COMPILER, len(plain))
             self.equals(what, "whether they are told", HAS_COMPILER and row.is_in_place(), "-" not in (plain or ["-"]))
 
     def test_the_other_rows_are_timed_by_processor_time(self):
@@ -94,9 +95,17 @@ class Bench(Trial):
     def test_another_program_stands_beside_and_one_that_answers_otherwise_is_told(self):
         for other, more in ((PROGRAM, []), (shutil.which("true"), ["answers otherwise"])):
             (found,) = self.figures(f"--size 0.01 --times 1 --only once {other}")
-            self.equals(other, "how many figures there are", 5 + len(more) + 3 * HAS_COMPILER, len(found))
-            self.equals(other, "what stands after them", more, found[5 : 5 + len(more)])
+            self.equals(other, "how many figures there are", 7 + len(more) + 4 * HAS_COMPILER, len(found))
+            self.equals(other, "what stands after them", more, found[7 : 7 + len(more)])
             self.equals(other, "whether the program tells interactions", False, found[2] == "-")
+
+    def test_the_memory_of_each_program_is_its_own(self):
+        large = self.room / "large"
+        large.write_text(f"#!/bin/sh\nexec '{sys.executable}' -c 'it = b\"x\" * 100_000_000'\n")
+        large.chmod(0o755)
+        (found,) = self.figures(f"--size 0.01 --times 1 --only once {large}")
+        for which, memory, least, most in (("first", found[3], 0, 8), ("second", found[6], 100, 150)):
+            self.equals(found, f"whether the {which} has more than {least} MB and less than {most}", True, least < float(memory) < most)
 
     def test_the_plain_program_prints_what_reduce_prints(self):
         if not HAS_COMPILER:
@@ -118,3 +127,20 @@ class Bench(Trial):
             command = [sys.executable, TOP / "bench", program, PROGRAM, "--guard", "5", "--times", "3", "--only", "start: settle"]
             ran = subprocess.run([str(it) for it in command], capture_output=True, text=True, timeout=120)
             self.equals(command, "status and standard error", (status, told), (ran.returncode, ran.stderr))
+
+    def test_a_guard_takes_all_rows_unless_some_are_picked(self):
+        both = [it.what for others in (False, True) for it in rows(0.001, others)]
+        for words, wanted in (
+            ("", both),
+            ("--others", [it.what for it in rows(0.001, others=True)]),
+            ("--only start", [it for it in both if it.startswith("start: ")]),
+            ("--others --only traced", [it for it in both if it.startswith("traced: ")]),
+        ):
+            found = self.figures(f"--guard 1000 --size 0.001 --times 1 {words} {PROGRAM}")
+            self.equals(f"--guard {words}", "the rows", wanted, [it[0] for it in found])
+            self.equals(f"--guard {words}", "what else stands in a row than figures", [], [it for row in found for it in row[1:] if not re.fullmatch(r"[\d,.]+|-", it)])
+
+    def test_a_guard_of_no_row_fails(self):
+        command = [sys.executable, TOP / "bench", PROGRAM, PROGRAM, "--guard", "--only", "nothing like it"]
+        ran = subprocess.run([str(it) for it in command], capture_output=True, text=True, timeout=120)
+        self.equals(command, "status and standard error", (1, "no row has the word nothing like it\n"), (ran.returncode, ran.stderr))

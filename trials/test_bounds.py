@@ -87,6 +87,13 @@ class Bounds(Trial):
             self.below(f"bytes of a million nodes: {what}", 100 * MEGABYTE, memory)
             self.below(f"seconds of a million nodes, in those of a loop: {what}", 20, seconds / fixed_work())
 
+    def test_a_million_agents_one_in_the_other_take_little_memory(self):
+        """A text of three megabytes, which is printed as well, by one thread and by as many as are taken by default."""
+        text = "{} <" + "S(" * 1_000_000 + "Z" + ")" * 1_000_000 + "|>"
+        for words, most in ((["--workers", 1], 40), ([], 42)):
+            memory, _ = self.taken("reduce", *words, given=text)
+            self.below(f"bytes of a million agents: reduce {words}", most * MEGABYTE, memory)
+
     def test_a_rich_text_takes_little_memory(self):
         """What is written of these has five, six and three megabytes. Each entry of a list took some 50 bytes, for its place."""
         for what, text, most in (
@@ -107,31 +114,35 @@ class Bounds(Trial):
             self.below(f"bytes of many {what}", 100 * MEGABYTE, memory)
             self.below(f"seconds of many {what}, in those of a loop", 20, seconds / fixed_work())
 
-    def test_a_server_of_many_submits_and_cancels_takes_little_memory(self):
+    def test_a_server_of_many_submits_and_cancels_takes_little_memory_and_time(self):
         lines = f"submit a {LOOP.text}\nrun 1\ncancel a\n" * 20_000
-        memory, _ = self.taken("serve", "--disk", self.disk(), given=lines)
+        memory, seconds = self.taken("serve", "--disk", self.disk(), given=lines)
         self.below("bytes of 20,000 jobs that come and go", 200 * MEGABYTE, memory)
+        self.below("seconds of 20,000 jobs that come and go, in those of a loop", 20, seconds / fixed_work())
 
-    def test_a_server_of_large_submits_and_cancels_takes_little_memory(self):
+    def test_a_server_of_large_submits_and_cancels_takes_little_memory_and_time(self):
         """Each text of 24,000 bytes takes 60,000 bytes while the page goes on that has its submit."""
         text = "{} <|" + ",".join(["ABCDA(ABCDB,ABCDC)=ABCDD(ABCDE)"] * 750) + ">"
         lines = f"submit a {text}\ncancel a\n".encode()
-        memory, _ = self.taken_of("serve", "--disk", self.disk(), "--group", 64, lines=lines, times=20_000)
+        memory, seconds = self.taken_of("serve", "--disk", self.disk(), "--group", 64, lines=lines, times=20_000)
         self.below("bytes of 20,000 large jobs that come and go", 200 * MEGABYTE, memory)
+        self.below("seconds of 20,000 large jobs that come and go, in those of a loop", 200, seconds / fixed_work())
 
-    def test_a_server_that_shows_a_large_job_after_each_round_takes_little_memory(self):
+    def test_a_server_that_shows_a_large_job_after_each_round_takes_little_memory_and_time(self):
         """Each configuration that is shown takes 128,000 bytes while the page goes on that has its fetch."""
         disk, text = self.disk(), "{A(B(x))><B(A(x))} <|A(x)=B(x)," + ",".join(["C(D,E)=F(G)"] * 1_600) + ">"
         self.taken("serve", "--disk", disk, given=f"submit a {text}\n")
-        memory, _ = self.taken_of("serve", "--disk", disk, lines=b"run 1\nfetch a\n", times=3_000)
+        memory, seconds = self.taken_of("serve", "--disk", disk, lines=b"run 1\nfetch a\n", times=3_000)
         self.below("bytes of a job that is shown 3,000 times", 200 * MEGABYTE, memory)
+        self.below("seconds of a job that is shown 3,000 times, in those of a loop", 40, seconds / fixed_work())
 
-    def test_a_server_of_jobs_that_grow_takes_little_memory(self):
+    def test_a_server_of_jobs_that_grow_takes_little_memory_and_time(self):
         """Each round of a job makes 300 nodes more, and several threads make rounds ahead, as each fires as much as it copies."""
         text = "{A(n,B(x))><B(A(S(n),x))} <|" + ",".join(f"A(Z,x{it})=B(x{it})" for it in range(1, 301)) + ">"
         lines = "".join(f"submit j{it} {text}\n" for it in range(32)) + "run 480\n"
-        memory, _ = self.taken("serve", "--disk", self.disk(), "--workers", 4, given=lines)
+        memory, seconds = self.taken("serve", "--disk", self.disk(), "--workers", 4, given=lines)
         self.below("bytes of 32 jobs that grow to 7,000 nodes", 60 * MEGABYTE, memory)
+        self.below("seconds of 32 jobs that grow to 7,000 nodes, in those of a loop", 20, seconds / fixed_work())
 
     def test_twice_the_text_takes_twice_the_time(self):
         def numeral(count):

@@ -1,23 +1,23 @@
-"""`./gate` sums its parts, tells how long each proof took and what it waited for, and tells at its end what has failed. Scripts
-stand for its parts, so nothing is proved or tried here."""
+"""`./gate` sums its parts, tells how long after those below it each crate was proved, and tells at its end what has failed.
+Scripts stand for its parts, so nothing is proved or tried here."""
 
 import os
 import re
 import shutil
 import subprocess
+import time
 
 from program import PATIENCE, TOP, Trial
 
-# Stands for `rt ci`: proves a library in a copy, and the program here half a second after it, if no variable has it fail. It
-# tells so once that is tried.
+# Stands for `rt ci`: keeps a library, proves another one, and then the program, if no variable has it fail. It tells so once
+# that is tried.
 RT = """#!/bin/sh
 echo "$*" >>"$CALLS"
-mkdir -p $TMPDIR/rt-copy-$$-x/repo/crates/ic_low/out
-sleep 1.2
+echo "rt: ic_kept is kept: an earlier run proved it"
+sleep 3
 echo "rt: ic_low proved"
-sleep 0.5
 mkdir -p crates/icserve/out
-sleep 1
+sleep 1.5
 [ -n "$FAILS" ] || install gate crates/icserve/out/icserve
 [ -n "$FAILS" ] || for _ in $(seq 60); do [ -e tried ] || sleep 0.5; done
 [ -n "$FAILS" ] || { echo "rt: icserve proved"; echo "9 passed, 0 failed"; exit; }
@@ -49,7 +49,7 @@ class Gate(Trial):
         super().setUp()
         for name in ("gate", "icserve"):
             shutil.copy(TOP / name, self.room / name)
-        files = {"crates.txt": "ic_low: std\nicserve: ic_low std\n", "tools/rt": RT, "trials/__main__.py": TRIALS, "checks/layout.py": "print('9 passed, 0 failed')\n"}
+        files = {"crates.txt": "ic_kept: std\nic_low: std\nicserve: ic_low ic_kept std\n", "tools/rt": RT, "trials/__main__.py": TRIALS, "checks/layout.py": "print('9 passed, 0 failed')\n"}
         for part in ("src", "specs", "proofs"):
             files[f"crates/icserve/{part}/file"] = "text\n"
         for path, text in files.items():
@@ -67,15 +67,17 @@ class Gate(Trial):
         self.equals("./gate", f"status; it said {ran.stdout}{ran.stderr}", status, ran.returncode)
         return ran.stdout.splitlines()
 
-    def test_it_sums_its_parts_and_tells_how_long_each_proof_took(self):
+    def test_it_sums_its_parts_and_tells_how_long_after_those_below_each_crate_was_proved(self):
+        began = time.monotonic()
         lines = self.gate(0)
+        took = time.monotonic() - began
         self.equals("./gate", "its last line", "22 passed, 0 failed", lines[-1])
         self.equals("./gate", f"whether the trials draw by one seed, as soon as the program is there: {lines}", True, "trials: SEED=1, before the end" in lines)
         told = [it[1] for it in (re.fullmatch(r"gate: +(.*)", line) for line in lines) if it]
-        if int(subprocess.check_output(["stat", "-c", "%W", self.room])) > 0:
-            wanted = ["N s  icserve, N s after ic_low", "N s  ic_low, N s after the gate began", "N processor minutes in N minutes"]
-            self.equals("./gate", f"what it tells of the proofs: {told}", wanted, [re.sub(r"\d+", "N", it) for it in told])
-            self.equals("./gate", f"whether it tells how long they took: {told}", True, [int(it.split()[0]) for it in told[:2]] >= [2, 1])
+        wanted = ["N s  icserve, after ic_low", "N s  ic_low, after the gate began", "N processor minutes in N minutes"]
+        self.equals("./gate", f"what it tells of the proofs: {told}", wanted, [re.sub(r"\d+", "N", it) for it in told])
+        program, library = (int(it.split()[0]) for it in told[:2])
+        self.equals("./gate", f"whether one came after the other: {told} in {took} s", True, program >= 2 and library >= 3 and program + library <= took + 1)
         self.holds(self.room / "calls", "ci\n")
 
     def test_its_help_runs_nothing(self):
