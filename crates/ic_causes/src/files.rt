@@ -21,14 +21,19 @@ pub struct NotedFiles<'a, 'n, R> {
     pub notes: &'n Notes,
 }
 
-/// A file whose calls answer as the file's do, and are noted where they fail. A sync of its bytes also fails where the file is
-/// gone: nobody could open what was written.
+/// A file whose calls answer as the file's do, and are noted where they fail. A sync of a gate that was opened also fails where the
+/// file is gone: nobody could open what was kept.
 #[derive(Drop)]
 pub struct NotedFile<'n> {
     file: File,
     target: Target,
     notes: &'n Notes,
+    // Whether what was written last opens a gate, which is the last write of a keep.
+    opened: bool,
 }
+
+/// The byte of a gate that is open.
+const OPEN: u8 = 1;
 
 impl<'n> NotedFile<'n> {
     /// Its bytes from this place on.
@@ -82,6 +87,7 @@ impl Read for NotedFile<'_> {
 
 impl Write for NotedFile<'_> {
     fn write(&mut self, buf: &[u8]) -> io::Result<usize> {
+        self.opened = buf.len() == 1 && buf[0] == OPEN;
         let answer = self.file.write(buf);
         self.noted(FileCall::Write, answer)
     }
@@ -128,7 +134,12 @@ impl OpenFile for NotedFile<'_> {
 
     fn sync_data(&self) -> io::Result<()> {
         self.noted(FileCall::Sync, self.file.sync_data())?;
-        self.refuse_gone()
+        // Each look makes the next write cost more, so there is one a keep.
+        if self.opened {
+            self.refuse_gone()
+        } else {
+            Ok(())
+        }
     }
 }
 
@@ -151,6 +162,7 @@ impl<'n, R: Files<File = File>> Files for NotedFiles<'_, 'n, R> {
             file: answer?,
             target,
             notes: self.notes,
+            opened: false,
         })
     }
 
