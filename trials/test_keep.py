@@ -1039,13 +1039,18 @@ class Keep(Stops):
 
     def is_killed(self, text, most, threads):
         """Kills a reduction so often. Each comes as a run goes on, and the next run resumes what is kept then. Where the reduction
-        ends, it has the answer and the counts of one that isn't stopped, and is begun anew. Without threads it goes by rounds."""
+        ends, it has the answer and the counts of one that isn't stopped, and is begun anew. Without threads it goes by rounds. It
+        begins by one thread or by all, as is drawn, since by all it may end before its first keep."""
         draw = self.draws()
+
+        def first():
+            return [*(["--workers", draw.choice((1, threads))] if threads else several), "--keep", self.file]
+
         began = time.monotonic()
         bound, several = ("--steps", ["--workers", threads]) if threads else ("--rounds", ["--rounds", 2**62])
         whole = self.whole(text) if threads else self.whole(text, *several)
         took = time.monotonic() - began
-        words, given, held, kills, went_on, ends = [*several, "--keep", self.file], text.encode(), None, 0, 0, 0
+        words, given, held, kills, went_on, ends = first(), text.encode(), None, 0, 0, 0
         # About half of the runs keep something before they are stopped, however busy the machine is.
         longest = took * 0.1
         while kills < most:
@@ -1053,13 +1058,14 @@ class Keep(Stops):
             if ran.status >= 0:
                 self.agree(ran, whole)
                 self.clear()
-                words, given, held, ends = [*several, "--keep", self.file], text.encode(), None, ends + 1
+                words, given, held, ends = first(), text.encode(), None, ends + 1
                 continue
             kills += 1
             now = self.kept(bound)
             # Nothing is kept yet: it is begun anew.
             if held is None and now is None:
                 longest *= 1.1
+                words = first()
                 self.clear()
                 continue
             earlier = held or 0
