@@ -1,9 +1,11 @@
 //! Rows of rounds as lines of a table, and as objects of JSON.
 
-ghost use Rattle.std.specs.Prelude.{◌≡◌, ◌++◌, OnOk};
+ghost use Rattle.std.specs.Prelude.{◌≡◌, ◌++◌, ◌∷◌, [], OnOk};
+ghost use Rattle.std.specs.Fmt.{decimal};
 ghost use Rattle.ic_by_rounds.specs.Tables.{head_line, row_line};
 
 use crate::row::Row;
+use ic_text::put_decimal;
 use std::alloc::{AllocError, Global};
 
 /// Appends the line that names the numbers of a row, with tabs between them.
@@ -14,18 +16,23 @@ pub(crate) fn put_head(out: &mut Vec<u8>) -> Result<(), AllocError>
 }
 
 /// Appends the line of a row.
-pub(crate) fn put_line(alloc: Global, row: Row, out: &mut Vec<u8>) -> Result<(), AllocError>
+pub(crate) fn put_line(row: Row, out: &mut Vec<u8>) -> Result<(), AllocError>
     ensures { OnOk result (out.new.items ≡ out.old.items ++ row_line row) }
 {
-    let Row {
-        round,
-        pairs,
-        nodes,
-        equations,
-        names,
-    } = row;
-    let line = format!(in alloc; "{round}\t{pairs}\t{nodes}\t{equations}\t{names}\n")?;
-    out.extend_from_slice(line.as_bytes())?;
+    put_number(row.round, b'\t', out)?;
+    put_number(row.pairs, b'\t', out)?;
+    put_number(row.nodes, b'\t', out)?;
+    put_number(row.equations, b'\t', out)?;
+    put_number(row.names, b'\n', out)
+}
+
+/// Appends a number in decimal, and the byte after it.
+#[inline(always)]
+fn put_number(number: u64, after: u8, out: &mut Vec<u8>) -> Result<(), AllocError>
+    ensures { OnOk result (out.new.items ≡ out.old.items ++ (decimal number ++ after ∷ [])) }
+{
+    put_decimal(number, out)?;
+    out.push(after)?;
     Ok(())
 }
 

@@ -142,7 +142,7 @@ impl Tracing {
     {
         self.summary = self.summary.with(row);
         match self.format {
-            Format::Table => put_line(self.alloc, row, &mut self.unwritten),
+            Format::Table => put_line(row, &mut self.unwritten),
             Format::Objects => put_object(self.alloc, row, &mut self.unwritten),
             Format::Picture => self.columns.add(row),
         }

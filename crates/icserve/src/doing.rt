@@ -25,6 +25,7 @@ use ic_expand::{Begun, Opened, Shape, begin_text, write_told};
 use ic_in_place::RoundBounds;
 use ic_streams::StreamFault;
 use ic_text::Limits;
+use std::alloc::Global;
 use std::io::{self, Cursor, Read, StdinLock};
 use std::sync::Wait;
 use std::thread::Threads;
@@ -241,9 +242,19 @@ fn create_disk<T>(doing: &Doing<'_, '_, T>) -> Result<(), Failure> {
     create(doing.rt, disk_at(doing.values), overwrite, doing.notes)
 }
 
+/// How many bytes are taken once, and given back: more than a list of a job has.
+const ROOM: usize = 1 << 20;
+
+/// Has the C library hold memory that lists give back, for those of later rounds. It goes by the largest block that it was given
+/// back. Without this it would take lists of large jobs anew of the system in each round.
+fn hold_room(alloc: Global) {
+    let _ = Vec::<u8>::with_capacity(alloc, ROOM);
+}
+
 fn serve<T: Threads + Wait + Copy + Send + 'static>(
     doing: &Doing<'_, '_, T>,
 ) -> Result<(), Failure> {
+    hold_room(doing.rt.alloc());
     let at = disk_at(doing.values);
     let explains = doing.values.flag(&EXPLAIN);
     let making = Making {
@@ -280,6 +291,7 @@ fn batch<T: Threads + Wait + Copy + Send + 'static>(
     doing: &Doing<'_, '_, T>,
     told: &mut Vec<u8>,
 ) -> Result<(), Failure> {
+    hold_room(doing.rt.alloc());
     let most = most_of(doing.values);
     let making = making_of(doing.threads, doing.values);
     let files = batching::Files {
