@@ -27,6 +27,8 @@ from systems import ACKERMANN, FIBONACCI, church, numeral  # noqa: E402
 FIGURES = ["--stats", "--format", "json"]
 HEAD = 17
 IMAGES = 3
+# In how many bytes each word of a state stands, by the letters of its form.
+WIDTHS = {b"ICKEPT01": 8, b"ICKEPT02": 4}
 SECOND = "it is the second file of a reduction: name the first one, without .2"
 NO_SECOND = "no `--keep` made this second file: move it away, and resume with `--from-one-file`"
 STRANGER = "it keeps no reduction: `--resume F` takes a file F that `--keep F` made"
@@ -56,7 +58,7 @@ def seen(place, content):
     state, rounds, order = content[HEAD:], "", "in any order"
     if state[:8] == b"ICROUND1":
         state, rounds, order = state[16:], f", rounds {struct.unpack('>Q', state[8:16])[0]}", "by rounds"
-    if state[:8] != b"ICKEPT01":
+    if state[:8] not in WIDTHS:
         return f"{head}, no state", number if gate else -1
     _, interactions, ended, rules, words, millis = struct.unpack(">6Q", state[8:56])
     fields = f"interactions {interactions}, words {words}, rules {rules}, milliseconds {millis}{rounds}"
@@ -98,15 +100,19 @@ def first_missing(path):
 def turned(state):
     """A state whose numbers have their lowest byte first, as another machine might write it. Its letters and its text stay."""
     rules, words = struct.unpack(">2Q", state[32:48])
-    end = 56 + 8 * (rules + words)
-    return state[:8] + b"".join(state[at : at + 8][::-1] for at in range(8, end, 8)) + state[end:]
+    front, width = 56 + 8 * rules, WIDTHS[state[:8]]
+    end = front + width * words
+    numbers = [state[at : at + 8][::-1] for at in range(8, front, 8)] + [state[at : at + width][::-1] for at in range(front, end, width)]
+    return state[:8] + b"".join(numbers) + state[end:]
 
 
 def state_of(content):
     """The state in a file: its head with its counts, its words, and its text."""
     state = content[HEAD : HEAD + struct.unpack(">Q", content[9:HEAD])[0]]
-    rules, words = struct.unpack(">2Q", state[32:48])
-    front, end = 56 + 8 * rules, 56 + 8 * (rules + words)
+    form = 16 if state[:8] == b"ICROUND1" else 0
+    rules, words = struct.unpack(">2Q", state[form + 32 : form + 48])
+    front = form + 56 + 8 * rules
+    end = front + WIDTHS[state[form : form + 8]] * words
     return state[:front], state[front:end], state[end:]
 
 
@@ -114,6 +120,13 @@ def with_state(content, *parts):
     """A file with such a state in the place of its own."""
     state = b"".join(parts)
     return content[:9] + struct.pack(">Q", len(state)) + state
+
+
+def widened(content):
+    """A file whose state has four bytes for each word, with that state as older programs keep it: with eight."""
+    numbers, words, text = state_of(content)
+    wide = [it if it < 2**31 else 2**63 + (it - 2**31 >> 24 << 32) + it % 2**24 for (it,) in struct.iter_unpack(">I", words)]
+    return with_state(content, numbers.replace(b"ICKEPT02", b"ICKEPT01"), struct.pack(f">{len(wide)}Q", *wide), text)
 
 
 class Keep(Stops):
@@ -650,7 +663,7 @@ class Keep(Stops):
         gate, number, size, state = (whole[newest][a:b] for a, b in ((0, 1), (1, 9), (9, HEAD), (HEAD, None)))
         self.equals(self.file, "how many interactions are kept", 9, struct.unpack(">Q", state[16:24])[0])
         head = gate + number + size
-        others = [head + letters + state[8:] for letters in (b"ICKEPT02", b"ICKEPT00", b"ICKEPT1\0", b"10TPEKCI")]
+        others = [head + letters + state[8:] for letters in (b"ICKEPT03", b"ICKEPT00", b"ICKEPT2\0", b"20TPEKCI")]
         for content in (*others, head + turned(state), gate + number[::-1] + size[::-1] + state):
             self.put([content if it == newest else whole[it] for it in (0, 1)])
             put = self.contents()
@@ -678,6 +691,41 @@ class Keep(Stops):
                 self.agree(run("reduce", "--resume", self.file, *FIGURES), whole)
                 self.agree(run("reduce", "--resume", self.file, *FIGURES), whole)
 
+    def is_narrow(self, content):
+        """Whether the state in a file has four bytes for each word."""
+        return b"ICKEPT02" in state_of(content)[0]
+
+    def test_a_state_with_eight_bytes_for_each_word_goes_on(self):
+        """As older programs keep it, in any order and by rounds. The next keep has four bytes for each."""
+        for text, bound, all_of_it in ((ackermann(2), ["--steps", 9], []), (fibonacci(9), ["--rounds", 3], ["--rounds", 2**62])):
+            whole = self.whole(text, *all_of_it)
+            self.clear()
+            run("reduce", "--keep", self.file, *bound, "--quiet-answer", given=text)
+            kept = self.contents()
+            newest = max((0, 1), key=lambda it: seen(it, kept[it])[1])
+            self.equals(text, "whether what is kept has four bytes for each word", [True, True], [*map(self.is_narrow, kept)])
+            wide, words = widened(kept[newest]), state_of(kept[newest])[1]
+            self.equals(text, "how many bytes more there are", len(words), len(wide) - len(kept[newest]))
+            for files in ([wide if it == newest else kept[it] for it in (0, 1)], [*map(widened, kept)]):
+                self.put(files)
+                self.inspected()
+                self.agree(run("reduce", "--resume", self.file, *FIGURES), whole)
+                then = self.contents()
+                self.equals(text, "the state that was read", wide, then[newest])
+                self.equals(text, "whether the next keep has four bytes for each word", True, self.is_narrow(then[1 - newest]))
+                self.agree(run("reduce", "--resume", self.file, *FIGURES), whole)
+
+    def test_a_name_from_2_to_the_31_on_has_eight_bytes(self):
+        """So a text that has it is kept first. After a step names are numbered anew, and four bytes are enough."""
+        text = ackermann(2).replace("<r|Ack(r,", "<v165191049|Ack(v165191049,")
+        whole = self.whole(text)
+        run("reduce", "--keep", self.file, "--steps", 0, "--quiet-answer", given=text)
+        self.equals(self.file, "whether four bytes are enough", False, self.is_narrow(self.contents()[0]))
+        self.inspected()
+        run("reduce", "--resume", self.file, "--steps", 1, "--quiet-answer")
+        self.equals(self.second, "whether four bytes are enough", True, self.is_narrow(self.contents()[1]))
+        self.agree(run("reduce", "--resume", self.file, *FIGURES), whole)
+
     def test_counts_that_are_not_those_of_the_text_are_damage(self):
         """A count too many, one too few, and one above all interactions."""
         run("reduce", "--keep", self.file, "--steps", 9, given=ackermann(2))
@@ -699,8 +747,8 @@ class Keep(Stops):
         """A file of 600 MB, most of which is a hole. What the program has in memory may be limited to 64 MB for it."""
         size = 600 * 2**20
         few = {"preexec_fn": lambda: resource.setrlimit(resource.RLIMIT_AS, (2**26, 2**26))}
-        numbers = b"ICKEPT01" + struct.pack(">6Q", 1, 0, 0, 2, size // 8, 0)
-        for state in (b"", b"nothing!", b"ICKEPT02", numbers):
+        numbers = [letters + struct.pack(">6Q", 1, 0, 0, 2, size // width, 0) for letters, width in WIDTHS.items()]
+        for state in (b"", b"nothing!", b"ICKEPT03", *numbers):
             for place in (0, 1):
                 self.put(bytes(HEAD) for _ in (0, 1))
                 with open((self.file, self.second)[place], "r+b") as file:
@@ -708,7 +756,7 @@ class Keep(Stops):
                     file.truncate(size)
                 ran = run("reduce", "--resume", self.file, **few)
                 self.equals(ran.command, "the end", (3, b"icserve: damaged\n"), (ran.status, ran.err))
-                if state == numbers:
+                if state in numbers:
                     lines = run("inspect", "--disk", self.file, **few).out.splitlines()
                     self.equals(self.file, "what is seen", (True, b"held: damaged"), (lines[place].endswith(b", no state"), lines[2]))
 
@@ -745,7 +793,7 @@ class Keep(Stops):
             for path in (self.file, self.second):
                 ran = run(*words, path)
                 self.equals(ran.command, f"status; it said {ran.err}", 3, ran.status)
-                is_told = path.read_bytes()[HEAD : HEAD + 8] == b"ICKEPT01"
+                is_told = path.read_bytes()[HEAD : HEAD + 8] in WIDTHS
                 self.equals(ran.command, "whether --resume is told of", is_told, b"`icserve reduce --resume F`" in ran.after)
                 self.equals(ran.command, "lines after the first", 1, ran.after.count(b"\n"))
                 others = (b"something else", b"--overwrite")
@@ -827,7 +875,7 @@ class Keep(Stops):
                 more.unlink(missing_ok=True)
                 has = os.statvfs(folder)
                 more.write_bytes(bytes((has.f_bavail - pages) * has.f_frsize))
-                ran = run("reduce", "--resume", self.file, "--steps", 3000)
+                ran = run("reduce", "--resume", self.file, "--steps", 6000)
                 told = (ran.status, ran.err, ran.after)
                 cause = f"{self.file}: write: no room left on the device\n".encode()
                 self.equals(ran.command, f"the end where {pages} pages are free", (4, b"icserve: device\n", cause), told)

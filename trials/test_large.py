@@ -231,7 +231,7 @@ class Large(Texts):
 
     def test_a_text_whose_device_is_full_fails_and_goes_on_once_there_is_room(self):
         """What is kept first is refused for its size, and then what is kept at the end."""
-        texts = {"one": f"{FIBONACCI} <r|F(r)={numeral(12)}>"}
+        texts = {"one": f"{FIBONACCI} <r|F(r)={numeral(13)}>"}
         self.write(texts)
         statuses = set()
         for most in (0, 10, 100, 200, 300, 500, 800, 1000):

@@ -255,8 +255,8 @@ stops_in_piece s first state fault itself together stops = record {
 }
 
 pub stops_in_keep : (s : SystemParts) (first : Kept) (state : State) (fault : KeepingFault) → IsReachedFrom s first first → ComesTogether s first (kept_by state)
-    → (length state.words.items ≤ MAX_WIDE_NODES → AllByRecursion IsKeptWord state.words.items) → StopsARun fault
-    → (fault ≡ Limit → (MAX_WIDE_NODES < length state.words.items) ⊎ ¬ AllByRecursion IsKeptWord state.words.items) → StopsFrom s first fault
+    → (length state.words.items ≤ MAX_WIDE_NODES → AllByRecursion (IsKeptWord state.narrow) state.words.items) → StopsARun fault
+    → (fault ≡ Limit → (MAX_WIDE_NODES < length state.words.items) ⊎ ¬ AllByRecursion (IsKeptWord state.narrow) state.words.items) → StopsFrom s first fault
 stops_in_keep s first state fault itself together numbered stops limits = record {
   stops = stops;
   limit = λ limit. ⊎_elim

@@ -385,13 +385,18 @@ agent_numbered (s ∷ ss) most (suc n) arity few each has =
     (omega (arith, few, rest.0), rest.1)
 
 -- words over symbols, with low names, have numbers of their own
-pub words_numbered : (ss : List Symbol) → AreSymbols ss → (ws : List Word) → list_all (is_word_over ss) ws ≡ true → one_above (flat_map word_names ws) ≤ MAX_NAME + 1 → AllByRecursion IsKeptWord ws
+pub words_numbered : (ss : List Symbol) → AreSymbols ss → (ws : List Word) → list_all (is_word_over ss) ws ≡ true → one_above (flat_map word_names ws) ≤ MAX_NAME + 1 → AllByRecursion (IsKeptWord false) ws
 words_numbered ss are [] over low = tt
 words_numbered ss are (Name n ∷ ws) over low = (omega (arith, low), words_numbered ss are ws over (omega (arith, low)))
 words_numbered ss are (Agent s arity ∷ ws) over low =
     let both = and_parts (has_arity arity (slice_get ss s)) (list_all (is_word_over ss) ws) over in
     let small = agent_numbered ss MAX_WIDE_SYMBOLS s arity are.few are.each both.0 in
     ((omega (arith, small.0), omega (arith, small.1)), words_numbered ss are ws both.1 low)
+
+-- and so they have in the narrow form, where that is chosen
+pub numbered_so : (narrow : Bool) (ws : List Word) → (narrow ≡ true) ↔ AllByRecursion (IsKeptWord true) ws → AllByRecursion (IsKeptWord false) ws → AllByRecursion (IsKeptWord narrow) ws
+numbered_so true ws chosen wide = chosen.0 refl
+numbered_so false ws chosen wide = wide
 
 -- a state is reached from itself
 pub itself_reached : ((rs : List Rule) (c : Configuration) → HasNames c → Reaches rs c c []) → ((rs : List Rule) (c d : Configuration) (fired : List ℕ) → Reaches rs c d fired → HasNames d)

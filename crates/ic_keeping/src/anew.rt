@@ -57,7 +57,7 @@ impl<T: Threads + Sync, C: Clock + Sync, V: Watch> Run<'_, T, C, V> {
             → IfErr result (λ fault. StopsABegin fault.cause ⊎ StopsARun fault.cause) }
         ensures limit { (s : SystemParts) → IsStartOf s start
             → IfErr result (λ fault. fault.cause ≡ KeepingFault.Limit
-            → ¬ AllByRecursion IsKeptWord start.state.words.items
+            → ¬ AllByRecursion (IsKeptWord start.state.narrow) start.state.words.items
             ⊎ ComesPastLimits s (kept_by start.state)) }
         ensures device { (s : SystemParts) → IsStartOf s start
             → IfErr result (λ fault. fault.cause ≡ KeepingFault.Device

@@ -1,6 +1,6 @@
 //! The state that a reduction begins with, in two files, and the one with which it goes on.
 
-ghost use Rattle.std.specs.Prelude.{◌≡◌, ◌≢◌, ◌⊎◌, ◌≤◌, ℕ, List, [], None, Some, false, if◌then◌else◌, Ok, Err, IfOk, IfErr, IsTrue, IsErrOf, OnOk, length, slice_index_or};
+ghost use Rattle.std.specs.Prelude.{◌≡◌, ◌≢◌, ◌⊎◌, ◌↔◌, ◌≤◌, ℕ, List, [], None, Some, true, false, if◌then◌else◌, Ok, Err, IfOk, IfErr, IsTrue, IsErrOf, OnOk, length, slice_index_or};
 ghost use Rattle.std.specs.Arc.{arc_value};
 ghost use Rattle.std.specs.List.{AllByRecursion};
 ghost use Rattle.ic_disk.specs.Images.{Within};
@@ -23,7 +23,7 @@ use crate::text::kept_text;
 use ic_disk::Disk;
 use ic_kept::{CreateFault, Keeper, OpenFault, create};
 use ic_rules::RuleSet;
-use ic_state::{State, StateFault, decode, encode};
+use ic_state::{State, StateFault, are_narrow, decode, encode};
 use ic_text::{Limits, Misread, TextFault, find_wide_system};
 use std::alloc::{AllocError, Global};
 use std::sync::Arc;
@@ -48,7 +48,9 @@ pub fn begun(alloc: Global, text: &[u8], by_rounds: bool) -> Result<Start, Misre
         → ReadsSystemWithin Limits.Wide text.now (Err misread.fault)) }
     // Each word has a number, so that no file is refused it.
     ensures numbered { IfOk result (λ begun.
-        AllByRecursion IsKeptWord begun.state.words.items) }
+        AllByRecursion (IsKeptWord begun.state.narrow) begun.state.words.items) }
+    ensures narrow { IfOk result (λ begun. (begun.state.narrow ≡ true)
+        ↔ AllByRecursion (IsKeptWord true) begun.state.words.items) }
     ensures rounds { IfOk result (λ begun.
         begun.state.rounds ≡ if by_rounds then Some 0 else None) }
 {
@@ -60,6 +62,7 @@ pub fn begun(alloc: Global, text: &[u8], by_rounds: bool) -> Result<Start, Misre
     let (rules, config) = system.into_parts();
     let by_rule = zeros(alloc, rules.rules().len())?;
     let (words, terms, _, _) = config.into_parts();
+    let narrow = are_narrow(&words);
     let kept = kept_text(alloc, text, &rules)?;
     let state = State {
         text: kept,
@@ -70,6 +73,7 @@ pub fn begun(alloc: Global, text: &[u8], by_rounds: bool) -> Result<Start, Misre
         ended: false,
         millis: 0,
         rounds: rounds_begun(by_rounds),
+        narrow,
     };
     Ok(Start { state, rules })
 }
@@ -122,7 +126,7 @@ pub fn begin<D: Disk>(
         → OneMore (D.failures first.old) (D.failures first.new)
         ⊎ OneMore (D.failures second.old) (D.failures second.new) }
     ensures limit { IsErrOf result KeepingFault.Limit
-        → ¬ AllByRecursion IsKeptWord state.now.words.items }
+        → ¬ AllByRecursion (IsKeptWord state.now.narrow) state.now.words.items }
     ensures untouched { IsErrOf result KeepingFault.Limit ⊎ IsErrOf result KeepingFault.Memory
         → (first.new ≡ first.old) × (second.new ≡ second.old) }
 
@@ -151,7 +155,8 @@ pub(crate) fn bytes_of(alloc: Global, state: &State) -> Result<Vec<u8>, KeepingF
     ensures bytes { IfOk result (λ bytes. bytes.items ≡ state_bytes (kept_by state.now)) }
     ensures sound { OnOk result (IsKept (kept_by state.now)) }
     ensures refused { IfErr result (λ fault. (fault ≡ KeepingFault.Memory)
-        ⊎ ((fault ≡ KeepingFault.Limit) × ¬ AllByRecursion IsKeptWord state.now.words.items)) }
+        ⊎ ((fault ≡ KeepingFault.Limit)
+        × ¬ AllByRecursion (IsKeptWord state.now.narrow) state.now.words.items)) }
 {
     match encode(alloc, state) {
         Ok(bytes) => Ok(bytes),

@@ -34,7 +34,7 @@ use ic_in_place::{
 };
 use ic_kept::Keeper;
 use ic_rules::RuleSet;
-use ic_state::State;
+use ic_state::{State, are_narrow};
 use ic_term::{MAX_WIDE_NODES, Symbols};
 use ic_text::{Limits, TextFault, find_wide_system, put_words};
 use ic_workers::{Policy, reduce_by_workers};
@@ -145,6 +145,8 @@ fn take_in(
 ) -> Result<Piece, KeepingFault>
     ensures text { state.new.text.items ≡ state.old.text.items }
     ensures words { OnOk result (state.new.words.items ≡ reduced.words.items) }
+    ensures narrow { OnOk result ((state.new.narrow ≡ true)
+        ↔ AllByRecursion (IsKeptWord true) state.new.words.items) }
     ensures terms { OnOk result (state.new.terms ≡ reduced.terms) }
     ensures interactions { OnOk result
         (state.new.interactions ≡ state.old.interactions + reduced.interactions) }
@@ -168,6 +170,7 @@ fn take_in(
     add_all(&mut state.by_rule, &reduced.by_rule).ok_or(KeepingFault::Limit)?;
     state.terms = reduced.terms as u64;
     state.words = reduced.words;
+    state.narrow = are_narrow(&state.words);
     // No time is added where what has ended is read once more.
     if !state.ended {
         state.millis = state.millis.saturating_add(all);
@@ -284,7 +287,7 @@ fn keep_further<D: Disk>(
     ensures refused { IfErr result (λ fault. StopsARun fault) }
     ensures limit { IfErr result (λ fault. fault ≡ KeepingFault.Limit
         → (MAX_WIDE_NODES < length state.now.words.items)
-        ⊎ ¬ AllByRecursion IsKeptWord state.now.words.items) }
+        ⊎ ¬ AllByRecursion (IsKeptWord state.now.narrow) state.now.words.items) }
     ensures failed { IfErr result (λ fault. (cause : KeepFault)
         → fault ≡ KeepingFault.Keep cause → KeepFails cause keeper.old keeper.new) }
 {
@@ -329,7 +332,7 @@ fn keep_state<D: Disk>(
     ensures refused { IfErr result (λ fault. StopsARun fault) }
     ensures limit { IfErr result (λ fault. fault ≡ KeepingFault.Limit
         → (MAX_WIDE_NODES < length state.now.words.items)
-        ⊎ ¬ AllByRecursion IsKeptWord state.now.words.items) }
+        ⊎ ¬ AllByRecursion (IsKeptWord state.now.narrow) state.now.words.items) }
     ensures failed { IfErr result (λ fault. (cause : KeepFault)
         → fault ≡ KeepingFault.Keep cause → KeepFails cause keeper.old keeper.new) }
 {

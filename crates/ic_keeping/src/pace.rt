@@ -27,7 +27,7 @@ pub struct Pace {
 const LEAST: u64 = 1 << 22;
 
 /// How many interactions the first piece makes for each second that it should go on. Few machines make fewer in a second.
-const EACH_SECOND: u64 = 1 << 23;
+const EACH_SECOND: u64 = 1 << 22;
 
 /// How many interactions a piece makes at most.
 const MOST: u64 = 1 << 60;
@@ -39,11 +39,11 @@ const GROWTH: u64 = 64;
 const BESIDE_KEEP: u64 = 10;
 
 impl Pace {
-    /// A pace of pieces that go on for so many milliseconds. The first one makes 2^23 interactions for each whole second of these,
+    /// A pace of pieces that go on for so many milliseconds. The first one makes 2^22 interactions for each whole second of these,
     /// and 2^22 at least, since it isn't known yet how long they take.
     pub fn new(every: u64) -> Pace
         ensures every { result.every ≡ every }
-        ensures first { result.piece ≡ max (2 ^ 22) (min (every / 1000 * 2 ^ 23) (2 ^ 60)) }
+        ensures first { result.piece ≡ max (2 ^ 22) (min (every / 1000 * 2 ^ 22) (2 ^ 60)) }
     {
         let piece = (every / 1_000).saturating_mul(EACH_SECOND);
         Pace {

@@ -1,4 +1,4 @@
--- Lists that are spelled element by element, in eight bytes each.
+-- Lists that are spelled element by element, in as many bytes each.
 use Rattle.std.proofs.Common.{◌≡◌, ℕ, suc, ◌+◌, ◌-◌, ◌*◌, ◌^◌, ◌<◌, ◌≤◌, List, [], ◌∷◌, ◌++◌, length, get_or, map, take, drop, refl, sym, ap, subst, ◌∙◌, append_assoc, append-nil, arith}
 use Rattle.std.proofs.lemmas.List.{length-append, take_more, take_all, take-take, take-append-drop, drop-take}
 use Rattle.std.specs.List.{flat_map, AllByRecursion}
@@ -20,17 +20,17 @@ module _ {X : Type 0} (spell : X → List ℕ) where
       ∙ ap (λ (l : List ℕ). l ++ after) (sym (spelled_more xs x))
       ∙ ap (λ (l : List X). flat_map spell l ++ after) (sym is)
 
-  module _ (eight : (x : X) → length (spell x) ≡ 8) where
-    pub length-spelled : (xs : List X) → length (flat_map spell xs) ≡ 8 * length xs
-    length-spelled [] = refl
-    length-spelled (x ∷ xs) = omega (arith, length-append (spell x) (flat_map spell xs), eight x, length-spelled xs)
+  module _ (width : ℕ) (long : (x : X) → length (spell x) ≡ width) where
+    pub length-spelled : (xs : List X) → length (flat_map spell xs) ≡ width * length xs
+    length-spelled [] = omega arith
+    length-spelled (x ∷ xs) = omega (arith, length-append (spell x) (flat_map spell xs), long x, length-spelled xs)
 
     module _ (Fits : X → Type 0) (one : (x y : X) → Fits x → Fits y → spell x ≡ spell y → x ≡ y) where
       pub same_spelled : (xs ys : List X) (a b : List ℕ) → AllByRecursion Fits xs → AllByRecursion Fits ys → length xs ≡ length ys
           → flat_map spell xs ++ a ≡ flat_map spell ys ++ b → (xs ≡ ys) × (a ≡ b)
       same_spelled [] [] a b fits fits_too same e = (refl, e)
       same_spelled (x ∷ xs) (y ∷ ys) a b fits fits_too same e =
-          let parts = fronts (spell x) (spell y) (flat_map spell xs ++ a) (flat_map spell ys ++ b) (eight x ∙ sym (eight y))
+          let parts = fronts (spell x) (spell y) (flat_map spell xs ++ a) (flat_map spell ys ++ b) (long x ∙ sym (long y))
           (sym (append_assoc (spell x) (flat_map spell xs) a) ∙ e ∙ append_assoc (spell y) (flat_map spell ys) b) in
           let first : x ≡ y = one x y fits.0 fits_too.0 parts.0 in
           let rest = same_spelled xs ys a b fits.1 fits_too.1 (omega (arith, same)) parts.1 in

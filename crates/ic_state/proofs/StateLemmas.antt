@@ -1,14 +1,13 @@
 -- The bytes of a state, read from the front.
-use Rattle.std.proofs.Common.{◌≡◌, ℕ, zero, suc, ◌*◌, ◌^◌, ◌<◌, ◌≤◌, Bool, true, false, List, [], ◌∷◌, ◌++◌, Option, None, Some, append_assoc, append-nil, length, get_or, nat_eq, refl, sym, ap, ◌∙◌, arith}
+use Rattle.std.proofs.Common.{◌≡◌, ℕ, zero, suc, ◌*◌, ◌^◌, ◌<◌, ◌≤◌, Bool, true, false, List, [], ◌∷◌, ◌++◌, Option, None, Some, append_assoc, append-nil, length, get_or, nat_eq, refl, sym, ap, subst, ◌∙◌, arith}
 use Rattle.std.proofs.lemmas.Grind.{get_or_default_zero}
 use Rattle.std.proofs.lemmas.List.{length-append}
 use Rattle.std.specs.List.{flat_map, AllByRecursion}
 use Rattle.ic_flat.specs.declared.word.Word.{Word}
 use Rattle.ic_state.specs.Numbers.{eight_bytes}
-use Rattle.ic_state.specs.Words.{word_bytes, IsKeptWord}
+use Rattle.ic_state.specs.Words.{width, word_bytes, IsKeptWord}
 use Rattle.std.specs.Prelude.{IfSome}
-use Rattle.ic_state.specs.State.{Kept, IsKept, ended_number, front_length, head_numbers, plain_bytes, rounds_numbers, state_bytes}
-use Rattle.ic_state.specs.declared.form.TheConstants.{FORMAT}
+use Rattle.ic_state.specs.State.{Kept, IsKept, ended_number, format_number, front_length, head_numbers, plain_bytes, rounds_numbers, state_bytes}
 use Rattle.ic_state.specs.declared.rounds.TheConstants.{BY_ROUNDS}
 use Rattle.ic_state.proofs.NumberLemmas.{eight_bytes-injective, fronts, length-eight_bytes}
 use Rattle.ic_state.proofs.ListLemmas.{length-spelled, same_spelled}
@@ -21,23 +20,37 @@ ended_small : (ended : Bool) → ended_number ended < 2
 ended_small true = omega arith
 ended_small false = omega arith
 
+-- the number with which a state begins tells its form, and isn't that of one by rounds
+pub format_small : (narrow : Bool) → format_number narrow < 2 ^ 64
+format_small true = omega arith
+format_small false = omega arith
+
+pub one_form : (a b : Bool) → format_number a ≡ format_number b → a ≡ b
+one_form true false e = absurd (omega (arith, e))
+one_form false true e = absurd (omega (arith, e))
+one_form _ _ e = refl
+
+no_rounds : (narrow : Bool) → format_number narrow ≡ BY_ROUNDS → ⊥
+no_rounds true e = omega (arith, e)
+no_rounds false e = omega (arith, e)
+
 head_fits : (k : Kept) → IsKept k → AllByRecursion IsSmall (head_numbers k)
-head_fits k is = (omega arith, (is.terms, (is.interactions, (omega (arith, ended_small k.ended), (is.rules, (is.count, (is.millis, tt)))))))
+head_fits k is = (format_small k.narrow, (is.terms, (is.interactions, (omega (arith, ended_small k.ended), (is.rules, (is.count, (is.millis, tt)))))))
 
 pub same_numbers : (xs ys : List ℕ) (a b : List ℕ) → AllByRecursion IsSmall xs → AllByRecursion IsSmall ys → length xs ≡ length ys
     → flat_map eight_bytes xs ++ a ≡ flat_map eight_bytes ys ++ b → (xs ≡ ys) × (a ≡ b)
-same_numbers xs ys a b = same_spelled eight_bytes length-eight_bytes IsSmall eight_bytes-injective xs ys a b
+same_numbers xs ys a b = same_spelled eight_bytes 8 length-eight_bytes IsSmall eight_bytes-injective xs ys a b
 
-pub same_words : (xs ys : List Word) (a b : List ℕ) → AllByRecursion IsKeptWord xs → AllByRecursion IsKeptWord ys → length xs ≡ length ys
-    → flat_map word_bytes xs ++ a ≡ flat_map word_bytes ys ++ b → (xs ≡ ys) × (a ≡ b)
-same_words xs ys a b = same_spelled word_bytes length-word_bytes IsKeptWord word_bytes-injective xs ys a b
+pub same_words : (narrow : Bool) (xs ys : List Word) (a b : List ℕ) → AllByRecursion (IsKeptWord narrow) xs → AllByRecursion (IsKeptWord narrow) ys → length xs ≡ length ys
+    → flat_map (word_bytes narrow) xs ++ a ≡ flat_map (word_bytes narrow) ys ++ b → (xs ≡ ys) × (a ≡ b)
+same_words narrow xs ys a b = same_spelled (word_bytes narrow) (width narrow) (length-word_bytes narrow) (IsKeptWord narrow) (word_bytes-injective narrow) xs ys a b
 
 -- the parts of the bytes of a state
 abbrev after_head : Kept → List ℕ
-after_head k = flat_map eight_bytes k.by_rule ++ (flat_map word_bytes k.words ++ k.text)
+after_head k = flat_map eight_bytes k.by_rule ++ (flat_map (word_bytes k.narrow) k.words ++ k.text)
 
 pub too_short : (k : Kept) (bytes : List ℕ) → length bytes < 8 * 7 → bytes ≡ plain_bytes k → ⊥
-too_short k bytes short is = omega (arith, short, ap length is, length-append (flat_map eight_bytes (head_numbers k)) (after_head k), length-spelled eight_bytes length-eight_bytes (head_numbers k))
+too_short k bytes short is = omega (arith, short, ap length is, length-append (flat_map eight_bytes (head_numbers k)) (after_head k), length-spelled eight_bytes 8 length-eight_bytes (head_numbers k))
 
 -- What was read of the head is that of each state that has these bytes after what is said of rounds.
 module _ (head bytes rest : List ℕ) (long : length head ≡ 7) (small : AllByRecursion IsSmall head) (read : bytes ≡ flat_map eight_bytes head ++ rest)
@@ -45,7 +58,7 @@ module _ (head bytes rest : List ℕ) (long : length head ≡ 7) (small : AllByR
   pub head_is : (head ≡ head_numbers k) × (rest ≡ after_head k)
   head_is = same_numbers head (head_numbers k) rest (after_head k) small (head_fits k kept) long (sym read ∙ is)
 
-  pub format_is : get_or head 0 0 ≡ FORMAT
+  pub format_is : get_or head 0 0 ≡ format_number k.narrow
   format_is = ap (λ (l : List ℕ). get_or l 0 0) head_is.0
 
   pub ended_is : get_or head 3 0 ≤ 1
@@ -72,15 +85,18 @@ module _ (head bytes rest : List ℕ) (long : length head ≡ 7) (small : AllByR
     short,
     rules_are,
     ap length head_is.1,
-    length-append (flat_map eight_bytes k.by_rule) (flat_map word_bytes k.words ++ k.text),
-    length-spelled eight_bytes length-eight_bytes k.by_rule,
+    length-append (flat_map eight_bytes k.by_rule) (flat_map (word_bytes k.narrow) k.words ++ k.text),
+    length-spelled eight_bytes 8 length-eight_bytes k.by_rule,
   )
 
-  pub words_fit : (by_rule after : List ℕ) → length by_rule ≡ get_or head 4 0 → AllByRecursion IsSmall by_rule → rest ≡ flat_map eight_bytes by_rule ++ after
-      → length after < 8 * get_or head 5 0 → ⊥
-  words_fit by_rule after count fits next short =
-      let both = same_numbers by_rule k.by_rule after (flat_map word_bytes k.words ++ k.text) fits kept.by_rule (count ∙ rules_are) (sym next ∙ head_is.1) in
-      omega (arith, short, words_are, ap length both.1, length-append (flat_map word_bytes k.words) k.text, length-spelled word_bytes length-word_bytes k.words)
+  pub words_fit : (narrow : Bool) (by_rule after : List ℕ) → get_or head 0 0 ≡ format_number narrow → length by_rule ≡ get_or head 4 0 → AllByRecursion IsSmall by_rule
+      → rest ≡ flat_map eight_bytes by_rule ++ after → length after < width narrow * get_or head 5 0 → ⊥
+  words_fit narrow by_rule after form count fits next short =
+      let spell = word_bytes k.narrow in
+      let both = same_numbers by_rule k.by_rule after (flat_map spell k.words ++ k.text) fits kept.by_rule (count ∙ rules_are) (sym next ∙ head_is.1) in
+      let less : length after < width k.narrow * get_or head 5 0 = subst (λ (b : Bool). length after < width b * get_or head 5 0) (one_form narrow k.narrow (sym form ∙ format_is)) short in
+      let few : length after < width k.narrow * length k.words = subst (λ (n : ℕ). length after < width k.narrow * n) words_are less in
+      omega (arith, few, ap length both.1, length-append (flat_map spell k.words) k.text, length-spelled spell (width k.narrow) (length-word_bytes k.narrow) k.words)
 
 pub ended_told : (b : Bool) (n : ℕ) → n ≡ ended_number b → nat_eq n 1 ≡ b
 ended_told true n e = ap (λ (m : ℕ). nat_eq m 1) e
@@ -96,11 +112,11 @@ one_ended _ _ e = refl
 abbrev tail_numbers : Kept → List ℕ
 tail_numbers k = k.terms ∷ k.interactions ∷ ended_number k.ended ∷ length k.by_rule ∷ length k.words ∷ k.millis ∷ []
 
-plain_front : (k : Kept) → plain_bytes k ≡ eight_bytes FORMAT ++ (flat_map eight_bytes (tail_numbers k) ++ after_head k)
-plain_front k = append_assoc (eight_bytes FORMAT) (flat_map eight_bytes (tail_numbers k)) (after_head k)
+plain_front : (k : Kept) → plain_bytes k ≡ eight_bytes (format_number k.narrow) ++ (flat_map eight_bytes (tail_numbers k) ++ after_head k)
+plain_front k = append_assoc (eight_bytes (format_number k.narrow)) (flat_map eight_bytes (tail_numbers k)) (after_head k)
 
 pub long_plain : (k : Kept) → 56 ≤ length (plain_bytes k)
-long_plain k = omega (arith, length-append (flat_map eight_bytes (head_numbers k)) (after_head k), length-spelled eight_bytes length-eight_bytes (head_numbers k))
+long_plain k = omega (arith, length-append (flat_map eight_bytes (head_numbers k)) (after_head k), length-spelled eight_bytes 8 length-eight_bytes (head_numbers k))
 
 rounds_front : (made : ℕ) (plain : List ℕ) → flat_map eight_bytes (rounds_numbers (Some made)) ++ plain ≡ eight_bytes BY_ROUNDS ++ (eight_bytes made ++ plain)
 rounds_front made plain =
@@ -132,7 +148,7 @@ some_said : (bytes after rest : List ℕ) (k : Kept) (o : Option ℕ) → k.roun
     → (made : ℕ) × (o ≡ Some made) × (after ++ rest ≡ eight_bytes made ++ plain_bytes k)
 some_said bytes after rest k None e read is =
     let whole = sym (append_assoc (eight_bytes BY_ROUNDS) after rest) ∙ ap (λ (l : List ℕ). l ++ rest) (sym read) ∙ is ∙ said_so k None e ∙ plain_front k in
-    absurd (omega (arith, (one_number BY_ROUNDS FORMAT (after ++ rest) (flat_map eight_bytes (tail_numbers k) ++ after_head k) (omega arith) (omega arith) whole).0))
+    absurd (no_rounds k.narrow (sym (one_number BY_ROUNDS (format_number k.narrow) (after ++ rest) (flat_map eight_bytes (tail_numbers k) ++ after_head k) (omega arith) (format_small k.narrow) whole).0))
 some_said bytes after rest k (Some made) e read is =
     let whole = sym (append_assoc (eight_bytes BY_ROUNDS) after rest) ∙ ap (λ (l : List ℕ). l ++ rest) (sym read) ∙ is ∙ said_so k (Some made) e ∙ rounds_front made (plain_bytes k) in
     (made, refl, (one_number BY_ROUNDS BY_ROUNDS (after ++ rest) (eight_bytes made ++ plain_bytes k) (omega arith) (omega arith) whole).1)
@@ -200,7 +216,7 @@ one_said : (k other : Kept) → IsKept k → IsKept other → (o : Option ℕ) �
 one_said k other kept kept_too None e same =
     let bytes = plain_bytes k in
     let all : bytes ++ [] ≡ state_bytes other = append-nil bytes ∙ sym (said_so k None e) ∙ same in
-    let said = none_said FORMAT bytes (flat_map eight_bytes (tail_numbers k) ++ after_head k) [] other (omega arith) (plain_front k) (λ is. omega (arith, is)) all in
+    let said = none_said (format_number k.narrow) bytes (flat_map eight_bytes (tail_numbers k) ++ after_head k) [] other (format_small k.narrow) (plain_front k) (no_rounds k.narrow) all in
     (e ∙ said.0, sym (append-nil bytes) ∙ said.1)
 one_said k other kept kept_too (Some made) e same =
     let bytes = state_bytes k in
@@ -215,8 +231,11 @@ one_state k other kept kept_too same =
     let said = one_said k other kept kept_too k.rounds refl same in
     let heads = head_is (head_numbers k) (plain_bytes k) (after_head k) refl (head_fits k kept) refl other kept_too said.1 in
     let at = λ (i : ℕ). ap (λ (l : List ℕ). get_or l i 0) heads.0 in
-    let rules = same_numbers k.by_rule other.by_rule (flat_map word_bytes k.words ++ k.text) (flat_map word_bytes other.words ++ other.text) kept.by_rule kept_too.by_rule (at 4) heads.1 in
-    let words = same_words k.words other.words k.text other.text kept.words kept_too.words (at 5) rules.1 in
+    let narrow : k.narrow ≡ other.narrow = one_form k.narrow other.narrow (at 0) in
+    let rules = same_numbers k.by_rule other.by_rule (flat_map (word_bytes k.narrow) k.words ++ k.text) (flat_map (word_bytes other.narrow) other.words ++ other.text)
+    kept.by_rule kept_too.by_rule (at 4) heads.1 in
+    let words = same_words k.narrow k.words other.words k.text other.text kept.words (subst (λ (b : Bool). AllByRecursion (IsKeptWord b) other.words) (sym narrow) kept_too.words) (at 5)
+    (rules.1 ∙ ap (λ (b : Bool). flat_map (word_bytes b) other.words ++ other.text) (sym narrow)) in
     let terms : k.terms ≡ other.terms = at 1 in
     let interactions : k.interactions ≡ other.interactions = at 2 in
     let ended : k.ended ≡ other.ended = one_ended k.ended other.ended (at 3) in
@@ -225,7 +244,7 @@ one_state k other kept kept_too same =
     let ws : k.words ≡ other.words = words.0 in
     let text : k.text ≡ other.text = words.1 in
     let rounds : k.rounds ≡ other.rounds = said.0 in
-    λ i. record { text = text i; words = ws i; terms = terms i; interactions = interactions i; by_rule = by_rule i; ended = ended i; millis = millis i; rounds = rounds i }
+    λ i. record { text = text i; words = ws i; terms = terms i; interactions = interactions i; by_rule = by_rule i; ended = ended i; millis = millis i; rounds = rounds i; narrow = narrow i }
 
 -- what an index reads, whatever stands past the end
 pub read_at : (xs : List ℕ) (i x : ℕ) → x ≡ get_or xs i x → i < length xs → x ≡ get_or xs i 0
@@ -249,3 +268,11 @@ seven (a ∷ b ∷ c ∷ d ∷ []) long = absurd (omega (arith, long))
 seven (a ∷ b ∷ c ∷ d ∷ e ∷ []) long = absurd (omega (arith, long))
 seven (a ∷ b ∷ c ∷ d ∷ e ∷ f ∷ []) long = absurd (omega (arith, long))
 seven (a ∷ b ∷ c ∷ d ∷ e ∷ f ∷ g ∷ h ∷ rest) long = absurd (omega (arith, long))
+
+-- in how many bytes the numbers stand that come before the lists
+pub front_is_long : (k : Kept) → length (flat_map eight_bytes (rounds_numbers k.rounds ++ head_numbers k)) ≡ front_length k.rounds
+front_is_long k = by k.rounds
+  where
+    by : (o : Option ℕ) → length (flat_map eight_bytes (rounds_numbers o ++ head_numbers k)) ≡ front_length o
+    by None = omega (arith, length-spelled eight_bytes 8 length-eight_bytes (rounds_numbers None ++ head_numbers k))
+    by (Some made) = omega (arith, length-spelled eight_bytes 8 length-eight_bytes (rounds_numbers (Some made) ++ head_numbers k))

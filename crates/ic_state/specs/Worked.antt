@@ -1,5 +1,5 @@
--- Four states by hand, and their bytes field by field: the worked example of the form.
-use Rattle.std.specs.Prelude.{ℕ, List, [], ◌∷◌, ◌++◌, None, Some, true, false, codes}
+-- Five states by hand, and their bytes field by field: the worked example of the form.
+use Rattle.std.specs.Prelude.{ℕ, ◌+◌, List, [], ◌∷◌, ◌++◌, None, Some, true, false, codes}
 use Rattle.ic_flat.specs.declared.word.Word.TheVariants.{Name, Agent}
 use Rattle.ic_state.specs.State.{Kept}
 
@@ -18,6 +18,7 @@ joins_begun = record {
   ended = false;
   millis = 0;
   rounds = None;
+  narrow = false;
 }
 
 -- its state after its one interaction, and 1,027 milliseconds: `<C|>`
@@ -31,6 +32,7 @@ joins_ended = record {
   ended = true;
   millis = 1027;
   rounds = None;
+  narrow = false;
 }
 
 -- a text that has three rules and nothing else of a system but its symbols, `A` 0 and `B` 1
@@ -49,11 +51,16 @@ meets_midway = record {
   ended = false;
   millis = 40;
   rounds = None;
+  narrow = false;
 }
 
 -- the ended state, where its one interaction was made in one round
 abbrev pub joins_by_rounds : Kept
 joins_by_rounds = record joins_ended { rounds = Some 1 }
+
+-- the state as it begins, in the narrow form
+abbrev pub joins_narrow : Kept
+joins_narrow = record joins_begun { narrow = true }
 
 -- a number below 256 in eight bytes
 abbrev pub in_eight : ℕ → List ℕ
@@ -62,6 +69,13 @@ in_eight n = 0 ∷ 0 ∷ 0 ∷ 0 ∷ 0 ∷ 0 ∷ 0 ∷ n ∷ []
 -- an agent with this symbol and so many arguments, both below 256
 abbrev pub agent_in_eight : (symbol arguments : ℕ) → List ℕ
 agent_in_eight symbol arguments = 0x80 ∷ 0 ∷ 0 ∷ arguments ∷ 0 ∷ 0 ∷ 0 ∷ symbol ∷ []
+
+-- the same in four bytes, where there are fewer than 128 arguments
+abbrev pub in_four : ℕ → List ℕ
+in_four n = 0 ∷ 0 ∷ 0 ∷ n ∷ []
+
+abbrev pub agent_in_four : (symbol arguments : ℕ) → List ℕ
+agent_in_four symbol arguments = (0x80 + arguments) ∷ 0 ∷ 0 ∷ symbol ∷ []
 
 -- `ICKEPT01`
 abbrev pub format_by_hand : List ℕ
@@ -97,3 +111,11 @@ midway_by_hand = format_by_hand
 abbrev pub by_rounds_by_hand : List ℕ
 by_rounds_by_hand =
     (0x49 ∷ 0x43 ∷ 0x52 ∷ 0x4f ∷ 0x55 ∷ 0x4e ∷ 0x44 ∷ 0x31 ∷ []) ++ in_eight 1 ++ ended_by_hand
+
+-- The 110 bytes: `ICKEPT02`, the numbers of the state as it begins, and its five words in four bytes each.
+abbrev pub narrow_by_hand : List ℕ
+narrow_by_hand = (0x49 ∷ 0x43 ∷ 0x4b ∷ 0x45 ∷ 0x50 ∷ 0x54 ∷ 0x30 ∷ 0x32 ∷ [])
+    ++ in_eight 1 ++ in_eight 0 ++ in_eight 0 ++ in_eight 1 ++ in_eight 5 ++ in_eight 0
+    ++ in_eight 0
+    ++ in_four 17 ++ agent_in_four 0 1 ++ in_four 17 ++ agent_in_four 1 1 ++ agent_in_four 2 0
+    ++ joins

@@ -2,7 +2,7 @@
 
 ghost use Rattle.std.specs.Prelude.{◌≡◌, ◌<◌, ◌*◌, ◌^◌, ◌++◌, IfOk, IfErr, OnOk, length};
 ghost use Rattle.std.specs.List.{flat_map, AllByRecursion};
-ghost use Rattle.ic_state.specs.Numbers.{eight_bytes};
+ghost use Rattle.ic_state.specs.Numbers.{eight_bytes, four_bytes};
 ghost use Rattle.ic_state.specs.declared.fault.StateFault.TheVariants.{NotAState};
 
 use crate::fault::StateFault;
@@ -21,6 +21,20 @@ pub(crate) fn number_at(bytes: &[u8]) -> Result<(u64, &[u8]), StateFault>
     let number = u64::from_be_bytes([
         front[0], front[1], front[2], front[3], front[4], front[5], front[6], front[7],
     ]);
+    Ok((number, rest))
+}
+
+/// A number in four bytes, and the bytes after it.
+pub(crate) fn short_number_at(bytes: &[u8]) -> Result<(u32, &[u8]), StateFault>
+    ensures read { IfOk result (λ r. bytes.now ≡ four_bytes r.0 ++ r.1.now) }
+    ensures small { IfOk result (λ r. r.0 < 2 ^ 32) }
+    ensures refused { IfErr result (λ fault. (fault ≡ NotAState) × (length bytes.now < 4)) }
+{
+    if bytes.len() < 4 {
+        return Err(StateFault::NotAState);
+    }
+    let (front, rest) = bytes.split_at(4);
+    let number = u32::from_be_bytes([front[0], front[1], front[2], front[3]]);
     Ok((number, rest))
 }
 

@@ -1,8 +1,8 @@
 //! A state as bytes, and back.
 
-ghost use Rattle.std.specs.Prelude.{◌≡◌, ◌≢◌, ◌<◌, ◌^◌, Err, IfOk, IfSome};
+ghost use Rattle.std.specs.Prelude.{◌≡◌, ◌≢◌, ◌<◌, ◌^◌, Bool, Err, IfOk, IfSome, IsNone};
 ghost use Rattle.std.specs.List.{AllByRecursion};
-ghost use Rattle.ic_state.specs.State.{Kept, IsKept, ended_number, kept_by, plain_bytes, state_bytes};
+ghost use Rattle.ic_state.specs.State.{Kept, IsKept, ended_number, format_number, kept_by, plain_bytes, state_bytes};
 ghost use Rattle.ic_state.specs.Words.{IsKeptWord};
 ghost use Rattle.ic_state.specs.declared.fault.StateFault.TheVariants.{NotAState};
 
@@ -10,11 +10,14 @@ use crate::fault::StateFault;
 use crate::fields::{numbers_at, numbers_fit, put_numbers};
 use crate::rounds::{put_rounds, rounds_at};
 use crate::state::State;
-use crate::words::{put_words, words_at};
+use crate::words::{put_words, width, words_at};
 use std::alloc::Global;
 
-/// What the bytes of a state begin with: the letters `ICKEPT01`, as a number.
+/// What the bytes of a state begin with whose words are wide: the letters `ICKEPT01`, as a number.
 pub const FORMAT: u64 = 0x4943_4b45_5054_3031;
+
+/// What the bytes of a state begin with whose words are narrow: the letters `ICKEPT02`, as a number.
+pub const NARROW_FORMAT: u64 = 0x4943_4b45_5054_3032;
 
 /// How many numbers stand before the lists of a state, after what is said of rounds.
 pub(crate) const HEAD: u64 = 7;
@@ -26,10 +29,11 @@ const FRONT: usize = 9;
 pub fn encode(alloc: Global, state: &State) -> Result<Vec<u8>, StateFault>
     ensures bytes { IfOk result (λ bytes. bytes.items ≡ state_bytes (kept_by state.now)) }
     ensures sound { IfOk result (λ _. IsKept (kept_by state.now)) }
-    ensures refused { result ≡ Err NotAState → ¬ AllByRecursion IsKeptWord state.now.words.items }
+    ensures refused { result ≡ Err NotAState
+        → ¬ AllByRecursion (IsKeptWord state.now.narrow) state.now.words.items }
 {
     let head = [
-        FORMAT,
+        format_number(state.narrow),
         state.terms,
         state.interactions,
         ended_number(state.ended),
@@ -43,16 +47,36 @@ pub fn encode(alloc: Global, state: &State) -> Result<Vec<u8>, StateFault>
     put_rounds(state.rounds, &mut out)?;
     put_numbers(&head, &mut out)?;
     put_numbers(&state.by_rule, &mut out)?;
-    put_words(alloc, &state.words, &mut out)?;
+    put_words(alloc, state.narrow, &state.words, &mut out)?;
     out.extend_from_slice(&state.text)?;
     Ok(out)
 }
 
 /// For how many bytes room is made: no fewer than a state has, unless these are more than there may be.
 fn room_of(state: &State) -> usize {
-    let numbers = state.by_rule.len().saturating_add(state.words.len());
-    let bytes = numbers.saturating_add(FRONT).saturating_mul(8);
-    bytes.saturating_add(state.text.len())
+    let numbers = state.by_rule.len().saturating_add(FRONT).saturating_mul(8);
+    let words = state.words.len().saturating_mul(width(state.narrow));
+    numbers
+        .saturating_add(words)
+        .saturating_add(state.text.len())
+}
+
+fn format_number(narrow: bool) -> u64
+    ensures { result ≡ format_number narrow }
+{
+    if narrow { NARROW_FORMAT } else { FORMAT }
+}
+
+/// Whether words are narrow in a state that begins with this number, if one does.
+pub(crate) fn narrow_of(format: u64) -> Option<bool>
+    ensures some { IfSome result (λ narrow. format ≡ format_number narrow) }
+    ensures none { IsNone result → (narrow : Bool) → format ≢ format_number narrow }
+{
+    match format {
+        FORMAT => Some(false),
+        NARROW_FORMAT => Some(true),
+        _ => None,
+    }
 }
 
 fn ended_number(ended: bool) -> u64
@@ -83,11 +107,14 @@ fn decode_after(alloc: Global, rounds: Option<u64>, bytes: &[u8]) -> Result<Stat
         → bytes.now ≢ plain_bytes kept }
 {
     let (head, rest) = numbers_at(alloc, HEAD, bytes)?;
-    if head[0] != FORMAT || head[3] > 1 {
+    let Some(narrow) = narrow_of(head[0]) else {
+        return Err(StateFault::NotAState);
+    };
+    if head[3] > 1 {
         return Err(StateFault::NotAState);
     }
     let (by_rule, rest) = numbers_at(alloc, head[4], rest)?;
-    let (words, rest) = words_at(alloc, head[5], rest)?;
+    let (words, rest) = words_at(alloc, narrow, head[5], rest)?;
     let text = rest.to_vec(alloc)?;
     Ok(State {
         text,
@@ -98,5 +125,6 @@ fn decode_after(alloc: Global, rounds: Option<u64>, bytes: &[u8]) -> Result<Stat
         ended: head[3] == 1,
         millis: head[6],
         rounds,
+        narrow,
     })
 }

@@ -21,6 +21,8 @@ pub struct State {
     pub millis: u64,
     /// How many rounds are over, where it is reduced by rounds.
     pub rounds: Option<u64>,
+    /// Whether each word is written in four bytes, as `are_narrow` allows. Else each is in eight.
+    pub narrow: bool,
 }
 
 /// What the first numbers of a state say.
@@ -38,4 +40,6 @@ pub struct StateHead {
     pub millis: u64,
     /// How many rounds are over, where it is reduced by rounds.
     pub rounds: Option<u64>,
+    /// Whether each word is written in four bytes, in place of eight.
+    pub narrow: bool,
 }

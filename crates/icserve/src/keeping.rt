@@ -121,12 +121,15 @@ fn live_in<'a, T: Threads + Sync, R: Read>(
     )
 }
 
+/// For how many threads the first piece of a text is made longer at most: it may have too little to share.
+const SHARERS: usize = 4;
+
 /// How often it is kept. Of a text each thread should make as many interactions at first as one by itself. What is resumed may go
 /// by rounds, which one thread makes.
 fn pace_of(kept: KeptIn<'_>, workers: usize) -> Pace {
     let every = kept.seconds.saturating_mul(1_000);
     let threads = if kept.begins && kept.rounds.is_none() {
-        workers as u64
+        workers.min(SHARERS) as u64
     } else {
         1
     };

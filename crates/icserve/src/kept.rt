@@ -339,8 +339,10 @@ fn fits(front: Front, head: StateHead) -> bool {
         Some(_) => ROUNDS + NUMBERS,
         None => NUMBERS,
     };
-    let numbers = head.rules.saturating_add(head.words).saturating_mul(8);
-    numbers.saturating_add(first) <= front.size
+    let width = if head.narrow { 4 } else { 8 };
+    let counts = head.rules.saturating_mul(8);
+    let words = head.words.saturating_mul(width);
+    counts.saturating_add(words).saturating_add(first) <= front.size
 }
 
 /// The line of what is seen of a file.

@@ -5,7 +5,7 @@ use ic_causes::{Notes, Target, shown_path};
 use ic_exits::Other;
 use ic_frames::HEAD;
 use ic_kept::HEAD as KEPT_HEAD;
-use ic_state::{BY_ROUNDS, FORMAT};
+use ic_state::{BY_ROUNDS, FORMAT, NARROW_FORMAT};
 use std::io::{self, Read};
 
 /// How many bytes of a file are looked at: the 17 of the head of a file that keeps a reduction, and the 8 with which its
@@ -135,12 +135,15 @@ pub(crate) fn holds_table(front: &[u8]) -> bool {
 
 /// Whether a file that begins with these bytes keeps a reduction: after its head stands that which a state begins with.
 pub(crate) fn is_of_reduction(front: &[u8]) -> bool {
-    let (form, by_rounds) = (FORMAT.to_be_bytes(), BY_ROUNDS.to_be_bytes());
-    match front.get(KEPT_HEAD as usize..) {
-        Some(state) => state.starts_with(form.as_slice())
-            || state.starts_with(by_rounds.as_slice()),
-        None => false,
+    let Some(state) = front.get(KEPT_HEAD as usize..) else {
+        return false;
+    };
+    for form in [NARROW_FORMAT, FORMAT, BY_ROUNDS] {
+        if state.starts_with(form.to_be_bytes().as_slice()) {
+            return true;
+        }
     }
+    false
 }
 
 /// The bytes with which the file of this path begins, or none where it can't be read.

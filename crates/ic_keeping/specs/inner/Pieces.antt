@@ -69,7 +69,7 @@ pub record IsPiece (ss : List Symbol) (bounds : Bounds) (old new : State) (piece
   pub millis : old.millis ≤ new.millis
   pub ended : (new.ended ≡ true) ↔ (piece.end ≡ Quiet)
   pub numbered : length new.words.items ≤ MAX_WIDE_NODES
-      → AllByRecursion IsKeptWord new.words.items
+      → AllByRecursion (IsKeptWord new.narrow) new.words.items
   pub written : IsWritten ss new.words.items new.terms
   pub printed : IsPrinted ss new piece.equations
   pub any : old.rounds ≡ None → new.rounds ≡ None

@@ -1,4 +1,4 @@
-use Rattle.std.proofs.Common.{◌≡◌, ◌∙◌, ℕ, ◌+◌, ◌<◌, ◌≤◌, List, Bool, true, false, if◌then◌else◌, Option, None, Some, length, refl, sym, ap, subst, arith}
+use Rattle.std.proofs.Common.{◌≡◌, ◌∙◌, ℕ, ◌+◌, ◌≤◌, List, Bool, true, false, if◌then◌else◌, Option, None, Some, length, refl, sym, ap, subst, arith}
 use Rattle.std.proofs.lemmas.Result.{err_from_is_err_and}
 use Rattle.std.specs.Prelude.{slice_index_or}
 use Rattle.ic_term.specs.Configuration.{Configuration, configuration_names, one_above}
@@ -12,7 +12,7 @@ use Rattle.ic_rules.specs.System.{SystemParts}
 use Rattle.ic_reaching.specs.OneNet.{SameButNext}
 use Rattle.ic_keeping.specs.Way.{IsAfterRounds, IsOnWay}
 use Rattle.ic_keeping.proofs.LowNames.{low_begun}
-use Rattle.ic_keeping.proofs.WayLemmas.{begun_on_way, words_numbered}
+use Rattle.ic_keeping.proofs.WayLemmas.{begun_on_way, numbered_so, words_numbered}
 use Rattle.ic_keeping.proofs.beginning.begun.Goals as goal
 
 -- no round is over
@@ -36,7 +36,7 @@ returns-clause-read c =
     let whole : configuration_of words terms c.into_parts-words.result.3 ≡ s.config = c.into_parts-words.ensures.same ∙ c.into_parts-rules.ensures.config in
     let config : configuration_of words terms s.config.next ≡ s.config =
     subst (λ (n : ℕ). configuration_of words terms n ≡ s.config) (ap (λ (d : Configuration). d.next) whole) whole in
-    let given : c.deref-2.result.now ≡ s.rules = c.deref-2.ensures ∙ c.into_parts-rules.ensures.rules in
+    let given : c.deref-3.result.now ≡ s.rules = c.deref-3.ensures ∙ c.into_parts-rules.ensures.rules in
     let kept = c.in_ok-kept.ensures.read s c.in_ok-system.ensures.read (sym given) in (
       s,
       c.in_ok-system.ensures.read,
@@ -92,6 +92,6 @@ returns-clause-numbered c =
     ∙ c.systems_are_sound.ensures.sound.over in
     let names = ap (λ (d : Configuration). configuration_names d) (sym whole) ∙ names-configuration_of words terms c.into_parts-words.result.2 c.into_parts-words.result.3 flat.counted in
     let low = low_begun c.args.text.now s c.in_ok-system.ensures.read c.in_ok-system.ensures.spelled in
-    words_numbered s.rules.symbols c.systems_are_sound.ensures.symbols words over
+    numbered_so c.are_narrow-narrow.result words (rw c.deref-2.ensures.value at c.are_narrow-narrow.ensures) (words_numbered s.rules.symbols c.systems_are_sound.ensures.symbols words over
     (subst (λ (ns : List ℕ). one_above ns ≤ MAX_NAME + 1) names
-    (subst (λ (n : ℕ). n ≤ MAX_NAME + 1) (c.next_is_one_above_the_names.ensures.system Wide c.args.text.now s c.in_ok-system.ensures.read) low))
+    (subst (λ (n : ℕ). n ≤ MAX_NAME + 1) (c.next_is_one_above_the_names.ensures.system Wide c.args.text.now s c.in_ok-system.ensures.read) low)))

@@ -17,7 +17,7 @@ returns-in_err-number-clause-refused c =
       c.loop.invariant.count,
       ap length c.loop.invariant.read,
       length-append (flat_map eight_bytes c.loop.numbers.items) c.loop.rest.now,
-      length-spelled eight_bytes length-eight_bytes c.loop.numbers.items,
+      length-spelled eight_bytes 8 length-eight_bytes c.loop.numbers.items,
     ))
 
 pub loop-preserved : goal.loop-preserved

@@ -7,6 +7,6 @@ use Rattle.ic_state.proofs.words.words_at.Given as goal
 abbrev pub invariant-loop : goal.invariant-loop
 invariant-loop l = record {
   count : length l.words.items ≡ l.counter;
-  read : l.bytes ≡ flat_map word_bytes l.words.items ++ l.rest;
-  kept : AllByRecursion IsKeptWord l.words.items;
+  read : l.bytes ≡ flat_map (word_bytes l.narrow) l.words.items ++ l.rest;
+  kept : AllByRecursion (IsKeptWord l.narrow) l.words.items;
 }

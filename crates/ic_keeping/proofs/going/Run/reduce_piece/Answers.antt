@@ -1,4 +1,3 @@
-use Rattle.std.proofs.Common.{refl}
 use Rattle.std.proofs.lemmas.Result.{IfOk-weaker}
 use Rattle.ic_keeping.proofs.ByRounds.{made_by_rounds, made_by_threads}
 use Rattle.ic_keeping.proofs.going.Run.reduce_piece.Goals as goal

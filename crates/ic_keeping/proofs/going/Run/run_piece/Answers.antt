@@ -1,6 +1,6 @@
 use Rattle.std.proofs.Common.{◌≡◌, ◌⊎◌, ⊎_elim, inl, inr, ◌∙◌, ℕ, ◌+◌, ◌-◌, ◌*◌, ◌<◌, ◌≤◌, List, None, Some, max, length, refl, sym, ap, subst, arith}
 use Rattle.std.proofs.lemmas.Result.{err_from_is_err_and}
-use Rattle.std.specs.Prelude.{◌↔◌, IsTrue, true}
+use Rattle.std.specs.Prelude.{◌↔◌, IsTrue, true, false}
 use Rattle.std.specs.Arc.{arc_value}
 use Rattle.std.specs.List.{AllByRecursion, list_all}
 use Rattle.ic_rules.specs.RuleSet.{Rules}
@@ -30,7 +30,7 @@ use Rattle.ic_keeping.proofs.ByRounds.{RoundLaws, after_rounds, all_fired, all_n
 use Rattle.ic_keeping.proofs.Refusing.{not_unsound, piece_without_memory}
 use Rattle.ic_keeping.proofs.LowNames.{TellingLaws, low_words}
 use Rattle.ic_keeping.proofs.Quiet.{QuietLaws}
-use Rattle.ic_keeping.proofs.WayLemmas.{NamingLaws, ReachingLaws, answer_of, answer_with, free_low, as_many_nodes, comes, counts_stay, past_sums, past_words, reached_from, reached_written, words_numbered}
+use Rattle.ic_keeping.proofs.WayLemmas.{NamingLaws, ReachingLaws, answer_of, answer_with, free_low, as_many_nodes, comes, counts_stay, numbered_so, past_sums, past_words, reached_from, reached_written, words_numbered}
 use Rattle.ic_keeping.proofs.going.Run.run_piece.Goals as goal
 use Rattle.ic_keeping.proofs.going.Run.run_piece.Goals.{In_ok-piece, In_ok-system}
 
@@ -229,9 +229,9 @@ returns-clause-piece g c =
           let short = subst (λ (ws : List Word). length ws ≤ MAX_WIDE_NODES) piece.words few in
           let low = low_words (telling_here g at) made.answer reduced.words.items reduced.terms reduced.equations made.writes.counted made.writes.written short in
           let names = names-configuration_of reduced.words.items reduced.terms reduced.equations 0 made.writes.counted in
-          subst (λ (ws : List Word). AllByRecursion IsKeptWord ws) (sym piece.words)
+          numbered_so new.narrow new.words.items piece.narrow (subst (λ (ws : List Word). AllByRecursion (IsKeptWord false) ws) (sym piece.words)
           (words_numbered t.rules.symbols c.systems_are_sound.ensures.symbols reduced.words.items made.writes.over
-          (subst (λ (ns : List ℕ). one_above ns ≤ MAX_NAME + 1) names low));
+          (subst (λ (ns : List ℕ). one_above ns ≤ MAX_NAME + 1) names low)));
       written = subst (λ (ws : List Word). IsWritten (arc_value c.args.rules.now).symbols ws new.terms) (sym piece.words)
           (subst (λ (n : ℕ). IsWritten (arc_value c.args.rules.now).symbols reduced.words.items n) (sym piece.terms)
           (subst (λ (rs : Rules). IsWritten rs.symbols reduced.words.items reduced.terms) c.in_ok-system.ensures.rules is));
