@@ -23,7 +23,7 @@ use Rattle.ic_jobs.specs.declared.reply.Refusal.{Refusal}
 use Rattle.ic_jobs.specs.declared.reply.Refusal.TheVariants.{Taken, Full, NoJob, NotRunning, NotPaused}
 use Rattle.ic_jobs.specs.declared.event.Event.TheVariants.{Round}
 use Rattle.ic_jobs.specs.Events.{Outcome, outcome, refused, submitted, copied, unless_missing, paused, resumed, after_command, after_round, where_running, apply}
-use Rattle.ic_jobs.specs.Landing.{flight_of, flight_at, due_place, due, Agrees, agrees, Awaits}
+use Rattle.ic_jobs.specs.Landing.{flight_of, flight_at, due_place, due, Agrees, agrees, Awaits, RunsNamed}
 use Rattle.ic_jobs.specs.Shown.{ShownParts, shown}
 use Rattle.ic_jobs.proofs.TableLemmas.{IsTable-push}
 use Rattle.ic_jobs.specs.State.{is_running, is_paused}
@@ -415,3 +415,17 @@ pub awaited_nowhere : {t v : List JobParts} {n m : List ℕ} {q : Rules} {b : Co
     → None ≡ position_from (is_named n) 0 t → Awaits v m q b l → ⊥
 awaited_nowhere {t = t} {v = v} {m = m} {q = q} {b = b} {l = l} tables names none awaits =
     not_awaited m v q b l (nothing_at m tables (none ∙ ap (λ (x : List ℕ). position_from (is_named x) 0 t) names)) awaits
+
+-- The running job of a name, at its place, and what was read there.
+pub record RunningAt (name : List ℕ) (t : List JobParts) (i : ℕ) (d : JobParts) : Type 0 where
+  pub found : FoundAt name t i d
+  pub same : d ≡ found.job
+  pub runs : is_running found.job.state ≡ true
+
+-- where a job of this name runs in an equal table, and the place of the name was found
+pub running_there : {t u v : List JobParts} {name : List ℕ} {i : ℕ} {d : JobParts} → t ≡ u → u ≡ v → IsTable u → Some i ≡ position_from (is_named name) 0 t
+    → RunsNamed v name → d ≡ get_or u i d → RunningAt name u i d
+running_there {u = u} {name = name} tables view is place runs read =
+    let r = read_at tables is place read in
+    let one : runs.job ≡ r.found.job = same_job runs.job r.found.job (job_named name u) (ap (job_named name) view ∙ runs.there) r.found.there in
+    record { found = r.found; same = r.same; runs = ap (λ (j : JobParts). is_running j.state) (sym one) ∙ ap is_running runs.running }

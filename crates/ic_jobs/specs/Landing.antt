@@ -35,6 +35,16 @@ flight_at t place = option_map (flight_of place) (slice_get t place)
 abbrev pub due : List JobParts → ℕ → Option FlightParts
 due t after = option_and_then (flight_at t) (due_place t after)
 
+-- the place and the name of the job that is due
+abbrev pub due_name : List JobParts → ℕ → Option (ℕ × List ℕ)
+due_name t after = option_map (λ f. (f.place, f.name)) (due t after)
+
+-- A running job of this name is there.
+pub record RunsNamed (t : List JobParts) (name : List ℕ) : Type 0 where
+  pub job : JobParts
+  pub there : job_named name t ≡ Some job
+  pub running : job.state ≡ Running
+
 -- A job has these rules, this whole configuration and these rounds.
 pub record Agrees (j : JobParts) (rules : Rules) (config : Configuration)
     (rounds : ℕ) : Type 0 where

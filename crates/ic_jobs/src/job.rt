@@ -1,8 +1,10 @@
 //! A job of the table.
 
-ghost use Rattle.std.specs.Prelude.{◌≡◌, IfOk, if◌then◌else◌};
+ghost use Rattle.std.specs.Prelude.{◌≡◌, IfOk, IsTrue, false, if◌then◌else◌};
 ghost use Rattle.std.specs.Arc.{arc_value};
 ghost use Rattle.std.specs.Str.{bytes_eq};
+ghost use Rattle.ic_term.specs.Symbol.{is_over};
+ghost use Rattle.ic_round.specs.Rounds.{fits, round};
 ghost use Rattle.ic_jobs.specs.declared.state.State.TheVariants.{Running, Done, Spent};
 ghost use Rattle.ic_jobs.specs.Budget.{is_used_up};
 ghost use Rattle.ic_jobs.specs.Job.{open_state};
@@ -11,6 +13,7 @@ use crate::budget::{Budget, is_used_up, is_within};
 use crate::shown::ShownJob;
 use crate::state::State;
 use ic_flat::{Flat, FlatSystem, over};
+use ic_flat_round::Workspace;
 use ic_flat_rules::{FlatRules, quiet};
 use ic_flights::{Flight, MAX_ROUNDS};
 use ic_rules::{JobName, RuleSet};
@@ -20,8 +23,9 @@ use std::sync::Arc;
 
 /// A job: its name, its rules and configuration in flat form, how many rounds it has made, its state,
 /// and its budget or none. It is done exactly where its configuration is quiet, and spent exactly
-/// where it isn't quiet and its rounds are its budget. Rules and configuration are shared, never
-/// changed: a round puts another configuration in place.
+/// where it isn't quiet and its rounds are its budget. Rules and configuration are shared. What
+/// others hold is never changed: a round puts another configuration in place, and is made in place
+/// only where nobody else holds the configuration.
 #[derive(Drop)]
 pub struct Job {
     name: JobName,
@@ -255,6 +259,26 @@ impl Job {
         self.config = after;
     }
 
+    /// Makes a round of a job that is neither done nor spent, in the lists of its own configuration,
+    /// if nobody else holds that and the round can be made. Else the job stays as it was.
+    pub(crate) fn round_in(&mut self, alloc: Global, workspace: &mut Workspace) -> bool
+        requires unfinished { is_finished self.old.state ≡ false }
+        ensures moved { IsTrue result → self.new ≡ moved self.old }
+        ensures can { IsTrue result → IsTrue (can_move self.old) }
+        ensures stays { result ≡ false → self.new ≡ self.old }
+    {
+        if self.rounds == MAX_ROUNDS {
+            return false;
+        }
+        if !round_alone(alloc, workspace, &self.rules, &mut self.config) {
+            return false;
+        }
+        let quiet_now = quiet(self.rules.rules(), &self.config);
+        self.rounds += 1;
+        self.state = state_after(quiet_now, self.rounds, &self.budget);
+        true
+    }
+
     /// The job as a round that is to be made, the job being at this place. It shares the rules and
     /// the configuration.
     pub(crate) fn flight(&self, place: usize) -> Result<Flight, AllocError>
@@ -320,6 +344,26 @@ impl Eq for Job {
     ghost use Rattle.ic_jobs.specs.lemmas.JobLaws.{job_eq-equivalence};
 
     ghost laws = { job_eq-equivalence };
+}
+
+/// Makes a round of a configuration in its own lists, if nobody else holds it and the round can be
+/// made. Else the configuration stays as it was.
+fn round_alone(
+    alloc: Global,
+    workspace: &mut Workspace,
+    rules: &FlatRules,
+    config: &mut Arc<Flat>,
+) -> bool
+    requires { IsTrue (is_over rules.now.symbols (arc_value config.old)) }
+    ensures fitting { IsTrue result → IsTrue (fits rules.now.rules (arc_value config.old)) }
+    ensures round { IsTrue result
+        → arc_value config.new ≡ round rules.now.rules (arc_value config.old) }
+    ensures stays { result ≡ false → arc_value config.new ≡ arc_value config.old }
+{
+    let Some(config) = Arc::get_mut(config) else {
+        return false;
+    };
+    workspace.round(alloc, rules, config).is_ok()
 }
 
 /// The state of a job as it begins.

@@ -1,21 +1,22 @@
 //! Rounds of a table: which is due, and what lands.
 
-ghost use Rattle.std.specs.Prelude.{◌≡◌, ◌↔◌, IfOk, IsTrue, Some};
+ghost use Rattle.std.specs.Prelude.{◌≡◌, ◌↔◌, IfOk, IfSome, IsTrue, Some, false};
 ghost use Rattle.ic_flights.specs.Flight.{is_blocked};
 ghost use Rattle.ic_jobs.specs.declared.event.Event.TheVariants.{Round};
 ghost use Rattle.ic_jobs.specs.declared.reply.Reply.TheVariants as reply;
 ghost use Rattle.ic_jobs.specs.declared.landed.Landed.TheVariants.{Moved, Stale};
 ghost use Rattle.ic_jobs.specs.Events.{apply, outcome};
-ghost use Rattle.ic_jobs.specs.Landing.{due, Awaits};
+ghost use Rattle.ic_jobs.specs.Landing.{due, due_name, Awaits, RunsNamed};
 
 use super::Table;
 use super::places::{awaited_place, due_place, place_of};
 use crate::landed::Landed;
 use crate::state::State;
 use ic_flat::Flat;
+use ic_flat_round::Workspace;
 use ic_flights::{Flight, Played};
 use ic_rules::{JobName, RuleSet};
-use std::alloc::AllocError;
+use std::alloc::{AllocError, Global};
 
 impl Table {
     /// The first running job at this place or after it, or else the first running job, to be
@@ -28,6 +29,17 @@ impl Table {
         };
         let flight = self.jobs[place].flight(place)?;
         Ok(Some(flight))
+    }
+
+    /// The place and the name of the job whose round is due. Nothing is shared.
+    pub fn due_name(&self, after: usize) -> Option<(usize, JobName)>
+        ensures due { result ≡ due_name self.now after }
+        ensures runs { IfSome result (λ due. RunsNamed self.now due.1) }
+    {
+        let Some(place) = due_place(&self.jobs, after) else {
+            return None;
+        };
+        Some((place, self.jobs[place].name()))
     }
 
     /// Whether a running job of this name has these rules, this whole configuration and these
@@ -78,6 +90,24 @@ impl Table {
         let after = played.into_after();
         self.jobs[place].advance(after, quiet);
         self.kept_list = None;
+    }
+
+    /// Makes the round of a running job in the lists of its own configuration, if nobody else holds
+    /// that and the round can be made. Else nothing changes: the round is to be made outside.
+    pub fn round_awaited(&mut self, alloc: Global, name: JobName, workspace: &mut Workspace) -> bool
+        requires { RunsNamed self.old name }
+        ensures event { IsTrue result
+            → apply self.old (Round name) ≡ Some (outcome self.new reply.Moved) }
+        ensures unchanged { result ≡ false → self.new ≡ self.old }
+    {
+        let Some(place) = place_of(&self.jobs, name) else {
+            return false;
+        };
+        if !self.jobs[place].round_in(alloc, workspace) {
+            return false;
+        }
+        self.kept_list = None;
+        true
     }
 
     /// Halts a job whose round can't be made, if it is still as it was; else the flight is stale.
