@@ -1,5 +1,5 @@
 -- Calls of a book as steps of a server.
-use Rattle.std.proofs.Common.{◌≡◌, ◌≢◌, ◌∙◌, inl, inr, true, false, IsErr, IsErrOf, ℕ, List, [], ◌∷◌, ◌++◌, Result, Ok, Err, length, refl, sym, ap, subst}
+use Rattle.std.proofs.Common.{◌≡◌, ◌≢◌, ◌∙◌, inl, inr, Bool, true, false, IsErr, IsErrOf, ℕ, List, [], ◌∷◌, ◌++◌, Result, Ok, Err, length, refl, sym, ap, subst}
 use Rattle.std.proofs.lemmas.List.{append-nil}
 use Rattle.std.proofs.lemmas.Bool.{both_ways}
 use Rattle.ic_disk.specs.declared.disk.Disk.{Ghosts}
@@ -9,14 +9,16 @@ use Rattle.ic_jobs.specs.declared.event.Entry.{Entry}
 use Rattle.ic_jobs.specs.declared.landed.Landed.{Landed}
 use Rattle.ic_jobs.specs.declared.landed.Landed.TheVariants.{Moved, Stale}
 use Rattle.ic_jobs.specs.declared.reply.Reply.{Reply}
+use Rattle.ic_jobs.specs.declared.reply.Reply.TheVariants as replied
 use Rattle.ic_book.specs.declared.book.Book.{Book}
 use Rattle.ic_book.specs.declared.fault.BookFault.{BookFault}
 use Rattle.ic_book.specs.declared.fault.BookFault.TheVariants.{Broken, LogFull, Device}
-use Rattle.ic_book.specs.Book.{start_of, log_of, table_of, kept_of, is_broken}
+use Rattle.ic_book.specs.Book.{start_of, log_of, table_of, kept_of, keeper_of, is_broken}
+use Rattle.ic_book.specs.Calls.{MakesOwnRound}
 use Rattle.ic_book.specs.Crashes.{LeavesKeptOrAll}
 use Rattle.ic_book.specs.Entries.{AddsCommand, command_entry, round_entry}
 use Rattle.ic_book.specs.inner.Entering.{EntersRound}
-use Rattle.ic_book.specs.Moves.{keeps, stays, round_move, keep_move}
+use Rattle.ic_book.specs.Moves.{keeps, stays, as_landed, round_move, keep_move}
 use Rattle.ic_book.specs.Server.{up, IsCall, Step, StepsByCommand, StepsByTake}
 use Rattle.ic_book.proofs.BookLemmas.{unchanged}
 
@@ -92,6 +94,24 @@ module _ {D : Type 0} {ghosts : Ghosts D} where
       }
   round_made F name reply Stale old new start kept is crash broken =
       stays_on old new start (is.same_log tt) (is.same_table tt) kept (subst (λ (es : List Entry). LeavesKeptOrAll es old new) (is.same_log tt) crash) broken
+
+  -- it is made in its job's own lists, or it isn't
+  pub own_made : {E : Type 0} {expected : Type 0} (F : Type 0) (name : List ℕ) (made : Bool) (old new : Book D ghosts) → start_of new ≡ start_of old → kept_of new ≡ kept_of old
+      → EntersRound {E = E} (round_entry name replied.Moved) expected (as_landed {E = E} (Ok made)) (log_of old) (log_of new) (table_of old) (table_of new) → LeavesKeptOrAll (log_of new) old new
+      → (is_broken old ≡ true → is_broken new ≡ true) → Step (round_move {E = F} name replied.Moved (as_landed {E = F} (Ok made))) (up old) (up new)
+  own_made F name true old new start kept is crash broken = round_made F name replied.Moved Moved old new start kept is crash broken
+  own_made F name false old new start kept is crash broken = round_made F name replied.Moved Stale old new start kept is crash broken
+
+  pub own_round : {E : Type 0} {expected : Type 0} (name : List ℕ) (made : Bool) (old new : Book D ghosts) → start_of new ≡ start_of old → kept_of new ≡ kept_of old → keeper_of new ≡ keeper_of old
+      → EntersRound {E = E} (round_entry name replied.Moved) expected (as_landed {E = E} (Ok made)) (log_of old) (log_of new) (table_of old) (table_of new) → MakesOwnRound name (Ok made) old new
+  own_round name true old new start kept keeper is = record { made = λ _. is.moved refl; unmade = λ never. cc; start = start; kept = kept; keeper = keeper }
+  own_round name false old new start kept keeper is = record {
+    made = λ never. cc;
+    unmade = λ _. record { same_start = start; same_log = is.same_log tt; same_table = is.same_table tt; same_kept = kept; same_keeper = keeper };
+    start = start;
+    kept = kept;
+    keeper = keeper;
+  }
 
   -- ---- a command
 

@@ -1,11 +1,12 @@
 -- What the calls of a book leave: where a call is refused, where a round comes and where all is kept.
 -- This project's choice.
-use Rattle.std.specs.Prelude.{◌≡◌, ◌≢◌, ◌↔◌, ◌+◌, ◌-◌, ◌^◌, ◌<◌, ◌≤◌, true, false, length, Result, IsTrue, IsErr, IsErrOf, IfOk, IfErr, OnOk, OnErr}
+use Rattle.std.specs.Prelude.{◌≡◌, ◌≢◌, ◌↔◌, ◌+◌, ◌-◌, ◌^◌, ◌<◌, ◌≤◌, true, false, Bool, List, ℕ, length, Result, IsTrue, IsErr, IsErrOf, IfOk, IfErr, OnOk, OnErr}
 use Rattle.ic_disk.specs.declared.disk.Disk.{Ghosts}
 use Rattle.ic_disk.specs.Images.{Within}
 use Rattle.ic_jobs.specs.declared.event.Entry.{Entry}
 use Rattle.ic_jobs.specs.declared.landed.Landed.{Landed}
 use Rattle.ic_jobs.specs.declared.landed.Landed.TheVariants.{Moved, Stale}
+use Rattle.ic_jobs.specs.declared.reply.Reply.TheVariants as reply
 use Rattle.ic_frames.specs.Fields.{IsMade}
 use Rattle.ic_slots.specs.Held.{IsHeld, the_table}
 use Rattle.ic_book.specs.declared.book.Book.{Book}
@@ -13,7 +14,7 @@ use Rattle.ic_book.specs.declared.fault.BookFault.{BookFault}
 use Rattle.ic_book.specs.declared.fault.BookFault.TheVariants.{Broken, LogFull, Worn, Memory, Device}
 use Rattle.ic_book.specs.declared.limits.TheConstants.{MAX_ENTRIES}
 use Rattle.ic_book.specs.Book.{start_of, log_of, table_of, kept_of, keeper_of, disk_of, is_broken, number_of, IsUnchanged}
-use Rattle.ic_book.specs.Entries.{Adds}
+use Rattle.ic_book.specs.Entries.{Adds, AddsRound}
 use Rattle.ic_book.specs.Refusals.{CountsBook}
 
 -- ---- refusals
@@ -67,6 +68,17 @@ pub record TakesRound {D : Type 0} {ghosts : Ghosts D} (entry : Entry) (expected
   pub stale : IfOk result (λ landed. landed ≡ Stale → ¬ expected)
   pub wanted : IsErrOf result Memory → expected
   pub unchanged : IfOk result (λ landed. landed ≡ Stale → IsUnchanged old new)
+  pub start : start_of new ≡ start_of old
+  pub kept : kept_of new ≡ kept_of old
+  pub keeper : keeper_of new ≡ keeper_of old
+
+-- A round that was made in its job's own lists is at the end of the log. Where none was made,
+-- nothing has changed. What is kept stays, and no call is made to the disk.
+pub record MakesOwnRound {D : Type 0} {ghosts : Ghosts D} (name : List ℕ)
+    (result : Result Bool BookFault) (old new : Book D ghosts) : Type 0 where
+  pub made : IfOk result (λ made. IsTrue made
+      → AddsRound name reply.Moved (log_of old) (log_of new) (table_of old) (table_of new))
+  pub unmade : IfOk result (λ made. made ≡ false → IsUnchanged old new)
   pub start : start_of new ≡ start_of old
   pub kept : kept_of new ≡ kept_of old
   pub keeper : keeper_of new ≡ keeper_of old

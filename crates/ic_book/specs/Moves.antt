@@ -1,6 +1,6 @@
 -- The moves of a server. The commands of all clients and the rounds of all jobs are one list of
 -- moves. This project's choice.
-use Rattle.std.specs.Prelude.{ℕ, List, [], ◌∷◌, Result, Ok, Err}
+use Rattle.std.specs.Prelude.{ℕ, List, [], ◌∷◌, Bool, true, false, Result, Ok, Err}
 use Rattle.ic_jobs.specs.declared.command.Command.{Command}
 use Rattle.ic_jobs.specs.declared.event.Entry.{Entry}
 use Rattle.ic_jobs.specs.declared.landed.Landed.{Landed}
@@ -49,6 +49,13 @@ abbrev pub round_move : {E : Type 0} → (name : List ℕ) (reply : Reply) → R
 round_move name reply (Ok Moved) = rounds name reply
 round_move name reply (Ok Stale) = stays
 round_move name reply (Err fault) = stays
+
+-- What is answered of a round in its job's own lists, as of one that comes from outside: it has
+-- landed where it was made, and else nothing comes, as at a stale one.
+abbrev pub as_landed : {E : Type 0} → Result Bool E → Result Landed E
+as_landed (Ok true) = Ok Moved
+as_landed (Ok false) = Ok Stale
+as_landed (Err fault) = Err fault
 
 -- which move a keep is
 abbrev pub keep_move : {T E : Type 0} → Result T E → Move

@@ -1,15 +1,17 @@
 //! Entries that are added to a history, with the change of the table that they tell.
 
-ghost use Rattle.std.specs.Prelude.{◌≡◌, ◌<◌, ◌++◌, ◌∷◌, [], Ok, IfOk, OnErr, IsTrue, vec_len, vec_capacity};
+ghost use Rattle.std.specs.Prelude.{◌≡◌, ◌≢◌, ◌<◌, ◌++◌, ◌∷◌, [], Ok, false, IfOk, OnErr, IsTrue, vec_len, vec_capacity};
 ghost use Rattle.ic_flights.specs.Flight.{is_blocked};
-ghost use Rattle.ic_jobs.specs.Landing.{Awaits};
+ghost use Rattle.ic_jobs.specs.Landing.{Awaits, RunsNamed};
 ghost use Rattle.ic_jobs.specs.declared.event.Event.TheVariants.{Command as by_command};
 ghost use Rattle.ic_jobs.specs.declared.landed.Landed.TheVariants.{Moved};
 ghost use Rattle.ic_jobs.specs.declared.reply.Reply.TheVariants as reply;
 ghost use Rattle.ic_book.specs.Entries.{AddsCommand, round_entry};
+ghost use Rattle.ic_book.specs.Moves.{as_landed};
 ghost use Rattle.ic_book.specs.inner.Entering.{EntersRound};
 
 use crate::log::Log;
+use ic_flat_round::Workspace;
 use ic_flights::{Flight, Played};
 use ic_jobs::{Command, Entry, Event, Landed, Reply, Table};
 use ic_rules::JobName;
@@ -121,6 +123,28 @@ pub(crate) fn land_entered(
     table.land_awaited(played);
     enter_round(log, name, Reply::Moved);
     Ok(Landed::Moved)
+}
+
+// Makes the round of a running job in the lists of its own configuration, with its entry, if the
+// table does.
+pub(crate) fn round_entered(
+    alloc: Global,
+    log: &mut Log,
+    table: &mut Table,
+    name: JobName,
+    workspace: &mut Workspace,
+) -> Result<bool, AllocError>
+    requires { RunsNamed table.old name }
+    // It is expected wherever it isn't left to be made outside.
+    ensures { EntersRound (round_entry name reply.Moved) (result ≢ Ok false) (as_landed result)
+        log.old.entries.items log.new.entries.items table.old table.new }
+{
+    log.reserve()?;
+    if !table.round_awaited(alloc, name, workspace) {
+        return Ok(false);
+    }
+    enter_round(log, name, Reply::Moved);
+    Ok(true)
 }
 
 // Halts a job whose round can't be made, with its entry, unless the flight is stale.

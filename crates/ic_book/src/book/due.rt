@@ -1,7 +1,7 @@
 //! Which round is due.
 
-ghost use Rattle.std.specs.Prelude.{◌≡◌, ◌≢◌, IfOk, IfErr};
-ghost use Rattle.ic_jobs.specs.Landing.{due};
+ghost use Rattle.std.specs.Prelude.{◌≡◌, ◌≢◌, IfOk, IfErr, IfSome};
+ghost use Rattle.ic_jobs.specs.Landing.{due, due_name, RunsNamed};
 ghost use Rattle.ic_book.specs.Book.{table_of};
 ghost use Rattle.ic_book.specs.Calls.{TellsBroken};
 
@@ -9,6 +9,7 @@ use super::Book;
 use crate::BookFault;
 use ic_disk::Disk;
 use ic_flights::Flight;
+use ic_rules::JobName;
 
 impl<D: Disk> Book<D> {
     /// The round that is due: the first running job at this place or after it, or else the first
@@ -23,5 +24,20 @@ impl<D: Disk> Book<D> {
             return Err(BookFault::Broken);
         }
         Ok(self.table.due(after)?)
+    }
+
+    /// The place and the name of the job whose round is due. Nothing is shared. None where no job
+    /// runs.
+    pub fn due_name(&self, after: usize) -> Result<Option<(usize, JobName)>, BookFault>
+        ensures broken { TellsBroken result self.now }
+        ensures only { IfErr result (λ fault. fault ≡ BookFault.Broken) }
+        ensures due { IfOk result (λ job. job ≡ due_name (table_of self.now) after) }
+        ensures runs { IfOk result (λ job. IfSome job (λ due.
+            RunsNamed (table_of self.now) due.1)) }
+    {
+        if self.keeper.broken() {
+            return Err(BookFault::Broken);
+        }
+        Ok(self.table.due_name(after))
     }
 }
