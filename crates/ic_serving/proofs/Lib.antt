@@ -13,3 +13,4 @@ pub mod StopLemmas
 pub mod CallLemmas
 pub mod ReadingLemmas
 pub mod AloneLemmas
+pub mod OwnLemmas

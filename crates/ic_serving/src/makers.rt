@@ -1,19 +1,26 @@
 //! Who makes the rounds of a serving, or of a loop of one's own.
 
-ghost use Rattle.std.specs.Prelude.{◌≡◌, ◌≤◌, IfOk};
+ghost use Rattle.std.specs.Prelude.{◌≡◌, ◌≤◌, IfOk, OnErr};
 ghost use Rattle.ic_flights.specs.Played.{round_of};
+ghost use Rattle.ic_jobs.specs.Landing.{RunsNamed};
+ghost use Rattle.ic_jobs.specs.declared.reply.Reply.TheVariants as reply;
+ghost use Rattle.ic_book.specs.Book.{table_of};
+ghost use Rattle.ic_book.specs.Calls.{MakesOwnRound, RefusesRound};
+ghost use Rattle.ic_book.specs.Moves.{as_landed, round_move};
+ghost use Rattle.ic_book.specs.Server.{Step, up};
 ghost use Rattle.ic_pool.specs.Played.{played};
 ghost use Rattle.ic_pool.specs.PoolFault.{Answers};
 ghost use Rattle.ic_pool.specs.Workers.{ByWorkers, played_by};
 
 use crate::limits::{ENOUGH, ENOUGH_AT_ONCE, ENOUGH_EACH, MOST_ROUNDS, TIMES, WORDS_EACH};
-use ic_book::Book;
+use ic_book::{Book, BookFault};
 use ic_disk::Disk;
 use ic_flat_round::Workspace;
 use ic_flights::{Flight, Played};
 use ic_jobs::{Job, MAX_JOBS, State};
 use ic_laps::{LAP_WORDS, Laps};
 use ic_pool::{PoolFault, play_in};
+use ic_rules::JobName;
 use std::alloc::{AllocError, Global};
 use std::sync::Wait;
 use std::thread::Threads;
@@ -65,6 +72,30 @@ impl Makers {
             self.laps
                 .make(rt, alloc, flights, rounds, self.wanted, workers);
         }
+    }
+
+    /// Makes the round of a running job in the lists of its own configuration, if no job's rounds are made ahead and the book
+    /// can. Answers whether it did.
+    pub(crate) fn make_own<D: Disk>(
+        &mut self,
+        alloc: Global,
+        book: &mut Book<D>,
+        name: JobName,
+    ) -> Result<bool, BookFault>
+        requires { RunsNamed (table_of book.old) name }
+        ensures step { Step (round_move name reply.Moved (as_landed result)) (up book.old) (up book.new) }
+        ensures fault { OnErr result (RefusesRound (as_landed result) book.old book.new) }
+        ensures round { MakesOwnRound name result book.old book.new }
+    {
+        book.facts();
+        if !self.laps.is_spent() {
+            return Ok(false);
+        }
+        let made = book.round_awaited(alloc, name, &mut self.workspace)?;
+        if made {
+            self.wanted = self.wanted.saturating_sub(1);
+        }
+        Ok(made)
     }
 
     /// The round of a flight: the one that is made ahead, or else this thread makes it. It is the same round.

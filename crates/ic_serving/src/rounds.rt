@@ -1,11 +1,12 @@
 //! One round over a book.
 
-ghost use Rattle.std.specs.Prelude.{true, false, ◌≡◌, ◌≢◌, ◌↔◌, ◌⊎◌, ◌<◌, ◌≤◌, ◌+◌, ◌-◌, ◌^◌, [], ◌∷◌, ◌++◌, length, None, Some, IsTrue, IsOk, IsErrOf, OnOk, OnErr, IfOk, IfErr, IfSome, IfNone};
+ghost use Rattle.std.specs.Prelude.{true, false, ◌≡◌, ◌≢◌, ◌↔◌, ◌⊎◌, ◌<◌, ◌≤◌, ◌+◌, ◌-◌, ◌^◌, [], ◌∷◌, ◌++◌, length, None, Some, IsTrue, IsSome, IsOk, IsErrOf, OnOk, OnErr, IfOk, IfErr, IfSome, IfNone};
+ghost use Rattle.std.specs.Option.{option_map};
 ghost use Rattle.ic_flights.specs.Flight.{FlightParts, is_blocked};
 ghost use Rattle.ic_jobs.specs.declared.event.Event.TheVariants.{Round};
 ghost use Rattle.ic_jobs.specs.declared.reply.Reply.{Reply};
 ghost use Rattle.ic_jobs.specs.declared.limits.TheConstants.{MAX_JOBS};
-ghost use Rattle.ic_jobs.specs.Landing.{due, Awaits};
+ghost use Rattle.ic_jobs.specs.Landing.{due, Awaits, RunsNamed};
 ghost use Rattle.ic_book.specs.declared.limits.TheConstants.{MAX_ENTRIES};
 ghost use Rattle.ic_book.specs.Book.{is_broken, start_of, table_of, log_of, kept_of, number_of, keeper_of, disk_of, IsUnchanged};
 ghost use Rattle.ic_book.specs.Entries.{round_entry};
@@ -24,6 +25,7 @@ use crate::makers::Makers;
 use ic_book::Book;
 use ic_disk::Disk;
 use ic_flights::Flight;
+use ic_rules::JobName;
 use std::alloc::Global;
 use std::sync::Wait;
 use std::thread::Threads;
@@ -125,17 +127,83 @@ pub fn make_round<T: Threads + Wait + Copy + Send + 'static, D: Disk>(
     ensures crash { Leaves book.old book.new (IsKeptOrNow book.old) }
 {
     book.facts();
-    ic_jobs::laws::what_is_due_is_awaited();
     ic_jobs::laws::due_is_the_next_running_job();
     let _jobs = book.table().jobs();
     makers.look_ahead(rt, alloc, book, after, workers);
-    let Some(flight) = book.due(after)? else {
+    let Some(job) = book.due_name(after)? else {
         return Ok(None);
     };
     make_room(alloc, book, limit)?;
-    let place = flight.place();
-    land_or_halt(rt, alloc, book, &flight, makers)?;
-    Ok(Some(place))
+    round_due(rt, alloc, book, after, job.1, makers)?;
+    Ok(Some(job.0))
+}
+
+/// Makes the round that is due, or halts its job where it can't be made: in the lists of the job's own configuration, if
+/// nobody else holds that, and else outside of the book.
+fn round_due<T: Wait, D: Disk>(
+    rt: &T,
+    alloc: Global,
+    book: &mut Book<D>,
+    after: usize,
+    name: JobName,
+    makers: &mut Makers,
+) -> Result<(), ServeFault>
+    requires room { length (log_of book.old) < MAX_ENTRIES }
+    requires runs { RunsNamed (table_of book.old) name }
+    requires due { option_map (λ f. f.name) (due (table_of book.old) after) ≡ Some name }
+    ensures advances { OnOk result (Advances (Round name) book.old book.new) }
+    ensures added { OnOk result ((reply : Reply)
+        × (log_of book.new ≡ log_of book.old ++ round_entry name reply ∷ [])) }
+    ensures start { start_of book.new ≡ start_of book.old }
+    ensures refused { OnErr result (IsUnchanged book.old book.new) }
+    ensures blocked { (flight : FlightParts) → due (table_of book.old) after ≡ Some flight
+        → IsTrue (is_blocked flight) → IfErr result ComesUnmade }
+    ensures fault { FaultLeaves ComesInLine result book.old book.new }
+    ensures alone { IfErr result ComesAlone }
+    ensures one { unkept_of book.new ≤ unkept_of book.old + 1 }
+    ensures keeper { keeper_of book.new ≡ keeper_of book.old }
+    ensures done { IsByCalls book.old book.new }
+{
+    book.facts();
+    let made = makers.make_own(alloc, book, name)?;
+    if made {
+        return Ok(());
+    }
+    round_outside(rt, alloc, book, after, makers)
+}
+
+/// Makes the round that is due outside of the book and lands it, or halts its job where it can't be made.
+fn round_outside<T: Wait, D: Disk>(
+    rt: &T,
+    alloc: Global,
+    book: &mut Book<D>,
+    after: usize,
+    makers: &mut Makers,
+) -> Result<(), ServeFault>
+    requires room { length (log_of book.old) < MAX_ENTRIES }
+    requires due { IsSome (due (table_of book.old) after) }
+    ensures advances { (flight : FlightParts) → due (table_of book.old) after ≡ Some flight
+        → OnOk result (Advances (Round flight.name) book.old book.new) }
+    ensures added { (flight : FlightParts) → due (table_of book.old) after ≡ Some flight
+        → OnOk result ((reply : Reply)
+        × (log_of book.new ≡ log_of book.old ++ round_entry flight.name reply ∷ [])) }
+    ensures start { start_of book.new ≡ start_of book.old }
+    ensures refused { OnErr result (IsUnchanged book.old book.new) }
+    ensures blocked { (flight : FlightParts) → due (table_of book.old) after ≡ Some flight
+        → IsTrue (is_blocked flight) → IfErr result ComesUnmade }
+    ensures fault { FaultLeaves ComesInLine result book.old book.new }
+    ensures alone { IfErr result ComesAlone }
+    ensures one { unkept_of book.new ≤ unkept_of book.old + 1 }
+    ensures keeper { keeper_of book.new ≡ keeper_of book.old }
+    ensures done { IsByCalls book.old book.new }
+{
+    book.facts();
+    ic_jobs::laws::what_is_due_is_awaited();
+    let _jobs = book.table().jobs();
+    let Some(flight) = book.due(after)? else {
+        return Ok(());
+    };
+    land_or_halt(rt, alloc, book, &flight, makers)
 }
 
 /// Makes a round that the book awaits and lands it, or halts its job where it can't be made.
