@@ -1080,7 +1080,7 @@ class Keep(Stops):
         self.is_killed(ackermann(int(os.environ.get("KEEP_SIZE") or 11)), 100, 1)
 
     def test_200_kills_at_drawn_moments_of_a_long_reduction_by_four_threads(self):
-        self.is_killed(fibonacci(int(os.environ.get("SHARED_SIZE") or 31)), 200, 4)
+        self.is_killed(fibonacci(int(os.environ.get("SHARED_SIZE") or 30)), 200, 4)
 
     def test_100_kills_at_drawn_moments_of_a_long_reduction_by_rounds(self):
         self.is_killed(fibonacci(int(os.environ.get("ROUNDS_SIZE") or 29)), 100, None)
