@@ -222,9 +222,12 @@ class Threads(Trial):
         drawn, wanted = self.draws(), run("reduce", "--workers", 1, given=self.text)
         self.reduced(3, f"growth {10**9} once")
         growths = next(it.at for it in noted(self.log) if it.kind == "C")
-        among = 0
-        for number in sorted(drawn.sample(range(1, growths + 1), min(growths, 200))):
-            how = drawn.choice(("once", "on"))
+        among, numbers = 0, sorted(drawn.sample(range(1, growths + 1), min(growths, 200)))
+        # Few growths come while several threads are at work, and it differs how many.
+        for at, number in enumerate([*numbers, *(drawn.randint(1, growths) for _ in range(400))]):
+            if at >= len(numbers) and among:
+                break
+            how = drawn.choice(("once", "on")) if at < len(numbers) else "once"
             ran = self.reduced(3, f"growth {number} {how}")
             kinds = "".join(it.kind for it in noted(self.log))
             before, _, after = kinds.partition("E")
